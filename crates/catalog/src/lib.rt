@@ -1,0 +1,2 @@
+// Catalogs of constraints.
+ghost use Rattle.catalog.specs.Constraints.{arcsOf};
