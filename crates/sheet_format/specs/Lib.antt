@@ -1,0 +1,6 @@
+pub mod Faults
+pub mod Numbers
+pub mod Value
+pub mod Encoding
+pub mod Reading
+pub mod Verdict
