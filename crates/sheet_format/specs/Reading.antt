@@ -24,9 +24,9 @@ pub data Shown : Type 0 where
 
 -- a table that begins at a place; its rows begin six bytes further on
 abbrev pub shownTable : List ℕ → ℕ → Shown
-shownTable [] place = showsShortTable []
-shownTable (a ∷ []) place = showsShortTable (a ∷ [])
-shownTable (a ∷ (b ∷ rows)) place = showsTable a b rows (place + 6)
+shownTable body place =
+    cond (ltb (length body) 2) (showsShortTable body)
+    (showsTable (getD body 0 0) (getD body 1 0) (drop 2 body) (place + 6))
 
 -- the record of a kind with a body that begins at a place, or nothing if there is no such kind
 abbrev pub shown : ℕ → List ℕ → ℕ → Option Shown

@@ -1,0 +1,6 @@
+// Reading a sheet: one record at a time, and the check of the whole.
+mod reader;
+
+pub use reader::Record;
+pub use reader::Rows;
+pub use reader::read_record;
