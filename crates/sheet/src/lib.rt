@@ -1,5 +1,7 @@
 // Reading a sheet: one record at a time, and the check of the whole.
+mod progress;
 mod reader;
+mod steps;
 
 pub use reader::Record;
 pub use reader::Rows;

@@ -97,16 +97,18 @@ withMove g =
 
 abbrev pub headingStep : Tally → List ℕ → ℕ → Step
 headingStep g body after =
-    unless (eqb (length body) 4) WrongLength
+    unless (eqb (g .n) 0) OutOfTurn
+    (unless (eqb (length body) 4) WrongLength
     (unless (eqb (number2 body 0) 1 && between 1 32 (number2 body 2)) BadHeading
-    (goes (withHeading g (number2 body 2) after)))
+    (goes (withHeading g (number2 body 2) after))))
 
 abbrev pub variableStep : Tally → List ℕ → ℕ → Step
 variableStep g body after =
-    unless (eqb (length body) 4) WrongLength
-    (unless (between 1 64 (variableOf body .size)) BadSize
-    (unless (ltb (variableOf body .house) (g .n) && not (used (g .variables) (variableOf body .house))) BadHouse
-    (goes (withVariable g (variableOf body) after))))
+    unless (ltb (length (g .variables)) (g .n)) OutOfTurn
+    (unless (eqb (length body) 4) WrongLength
+    (unless (between 1 64 (number2 body 0)) BadSize
+    (unless (ltb (number2 body 2) (g .n) && not (used (g .variables) (number2 body 2))) BadHouse
+    (goes (withVariable g (variableOf body) after)))))
 
 abbrev pub sumStep : Tally → List ℕ → ℕ → Step
 sumStep g body after =
@@ -125,20 +127,23 @@ tableStep g a b rows after =
 abbrev pub moveStep : Tally → List ℕ → Step
 moveStep g body = unless (complete g) OutOfTurn (unless (eqb (length body) 2) WrongLength (goes (withMove g)))
 
+abbrev pub endStep : Tally → List ℕ → Step
+endStep g body = unless (complete g) OutOfTurn (unless (eqb (length body) 0) WrongLength ends)
+
 -- a constraint: in turn, and at most the 96th
 abbrev pub constraintStep : Tally → Step → Step
 constraintStep g next = unless (constraintsDue g) OutOfTurn (unless (ltb (g .constraints) 96) TooManyConstraints next)
 
 -- what a record that ends before the place `after` does to a tally
 abbrev pub step : Tally → Shown → ℕ → Step
-step g (showsHeading body) after = unless (eqb (g .n) 0) OutOfTurn (headingStep g body after)
-step g (showsVariable body) after = unless (ltb (length (g .variables)) (g .n)) OutOfTurn (variableStep g body after)
+step g (showsHeading body) after = headingStep g body after
+step g (showsVariable body) after = variableStep g body after
 step g (showsSum body) after = constraintStep g (sumStep g body after)
 step g (showsTable a b rows place) after = constraintStep g (tableStep g a b rows after)
 step g (showsShortTable body) after = constraintStep g (stops WrongLength)
 step g (showsAdd body) after = moveStep g body
 step g (showsRetract body) after = moveStep g body
-step g (showsEnd body) after = unless (complete g) OutOfTurn (unless (eqb (length body) 0) WrongLength ends)
+step g (showsEnd body) after = endStep g body
 
 abbrev pub summary : Tally → Summary
 summary g =
