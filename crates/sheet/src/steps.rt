@@ -10,7 +10,7 @@ ghost use mir.Val.{toZ};
 ghost use mir.Syntax.{w16, w32};
 ghost use Rattle.sheet_format.specs.Numbers.{number2, number4, number8};
 ghost use Rattle.sheet_format.specs.Value.{sizeAt};
-ghost use Rattle.sheet_format.specs.Verdict.{used, rowsGood, endsGood, sumGood, betweenZ, complete, nothingYet};
+ghost use Rattle.sheet_format.specs.Verdict.{used, rowsGood, endsGood, sumGood, sumBodyGood, betweenZ, complete, constraintsDue, nothingYet, headingStep, variableStep, sumStep, tableStep, moveStep, endStep, constraintStep, withConstraint, withVariable, houseGood, step};
 ghost use Rattle.sheet.specs.Outcome.{shownBy};
 ghost use Rattle.sheet.specs.Steps.{tallyOf, stepOf, flowOf};
 use crate::progress::Progress;
@@ -121,9 +121,147 @@ fn sum_good(m: i16, k: i16, lo: i32, hi: i32) -> bool
     factor_good(m) && factor_good(k) && in_order(lo, hi)
 }
 
+// the factors and limits that a sum constraint's body gives
+fn sum_body_good(body: &[u8]) -> bool
+    requires { ⌜ length (now body) ≡ 14 ⌝ }
+    ensures { λ r. ⌜ r ≡ sumBodyGood (now (body .entry)) ⌝ }
+{
+    sum_good(signed_word(body, 2), signed_word(body, 4), signed_long(body, 6), signed_long(body, 10))
+}
+
 // the heading and all variables are there
 fn is_complete(progress: &Progress) -> bool
     ensures { λ r. ⌜ r ≡ complete (tallyOf (now (progress .entry))) ⌝ }
 {
     progress.n > 0 && progress.declared >= progress.n
+}
+
+// constraints may come: all variables are there, and no move has come
+fn constraints_due(progress: &Progress) -> bool
+    ensures { λ r. ⌜ r ≡ constraintsDue (tallyOf (now (progress .entry))) ⌝ }
+{
+    is_complete(progress) && progress.moves == 0
+}
+
+// how many values a variable that is there has
+fn size_at(progress: &Progress, i: usize) -> u16
+    requires { ⌜ i < now progress .declared ⌝ }
+    ensures { λ r. ⌜ r ≡ sizeAt (tallyOf (now (progress .entry)) .variables) i ⌝ }
+{
+    progress.variables[i].size
+}
+
+// a heading: the start word 1, and a number of variables from 1 to 32
+fn heading(progress: Progress, body: &[u8], after: u32) -> Result<Progress, Cause>
+    ensures { λ r. ⌜ stepOf r ≡ headingStep (tallyOf progress) (now (body .entry)) after ⌝ }
+{
+    if progress.n != 0 {
+        return Err(Cause::OutOfTurn);
+    }
+    if body.len() != 4 {
+        return Err(Cause::WrongLength);
+    }
+    let n = word(body, 2);
+    if word(body, 0) != 1 || n < 1 || n > 32 {
+        return Err(Cause::BadHeading);
+    }
+    let Progress { variables, declared, constraints, moves, .. } = progress;
+    Ok(Progress { n: n as usize, variables, declared, constraints, moves, reached: after })
+}
+
+// a variable more
+fn with_variable(progress: Progress, variable: Variable, after: u32) -> Progress
+    requires { ⌜ progress .declared < progress .n ⌝ }
+    ensures { λ r. ⌜ tallyOf r ≡ withVariable (tallyOf progress) variable after ⌝ }
+{
+    let Progress { n, mut variables, declared, constraints, moves, .. } = progress;
+    variables[declared] = variable;
+    Progress { n, variables, declared: declared + 1, constraints, moves, reached: after }
+}
+
+// the house number is below n and new
+fn house_good(progress: &Progress, house: u16) -> bool
+    ensures { λ r. ⌜ r ≡ houseGood (tallyOf (now (progress .entry))) house ⌝ }
+{
+    (house as usize) < progress.n && !house_used(&progress.variables[0..progress.declared], house)
+}
+
+// a variable: 1 to 64 values, and a house number that is below n and new
+fn variable(progress: Progress, body: &[u8], after: u32) -> Result<Progress, Cause>
+    ensures { λ r. ⌜ stepOf r ≡ variableStep (tallyOf progress) (now (body .entry)) after ⌝ }
+{
+    if progress.declared >= progress.n {
+        return Err(Cause::OutOfTurn);
+    }
+    if body.len() != 4 {
+        return Err(Cause::WrongLength);
+    }
+    let size = word(body, 0);
+    let house = word(body, 2);
+    if size < 1 || size > 64 {
+        return Err(Cause::BadSize);
+    }
+    if !house_good(&progress, house) {
+        return Err(Cause::BadHouse);
+    }
+    Ok(with_variable(progress, Variable { size, house }, after))
+}
+
+// a constraint more
+fn with_constraint(progress: Progress, after: u32) -> Progress
+    requires { ⌜ progress .constraints < 96 ⌝ }
+    ensures { λ r. ⌜ tallyOf r ≡ withConstraint (tallyOf progress) after ⌝ }
+{
+    let Progress { n, variables, declared, constraints, moves, .. } = progress;
+    Progress { n, variables, declared, constraints: constraints + 1, moves, reached: after }
+}
+
+// a sum constraint
+fn sum(progress: Progress, body: &[u8], after: u32) -> Result<Progress, Cause>
+    requires { ⌜ progress .constraints < 96 ⌝ }
+    ensures { λ r. ⌜ stepOf r ≡ sumStep (tallyOf progress) (now (body .entry)) after ⌝ }
+{
+    if body.len() != 14 {
+        return Err(Cause::WrongLength);
+    }
+    if !ends_good(progress.n, body[0], body[1]) {
+        return Err(Cause::BadEnds);
+    }
+    if !sum_body_good(body) {
+        return Err(Cause::BadSum);
+    }
+    Ok(with_constraint(progress, after))
+}
+
+// a table constraint with both its ends
+fn table(progress: Progress, a: u8, b: u8, rows: &[u8], after: u32) -> Result<Progress, Cause>
+    requires { ⌜ progress .constraints < 96 ⌝ ∗ ⌜ progress .declared ≡ progress .n ⌝ }
+    ensures { λ r. ⌜ stepOf r ≡ tableStep (tallyOf progress) a b (now (rows .entry)) after ⌝ }
+{
+    if !ends_good(progress.n, a, b) {
+        return Err(Cause::BadEnds);
+    }
+    let count = size_at(&progress, a as usize) as usize;
+    if rows.len() != 8 * count {
+        return Err(Cause::WrongLength);
+    }
+    if !rows_good(rows, count, size_at(&progress, b as usize)) {
+        return Err(Cause::BadRow);
+    }
+    Ok(with_constraint(progress, after))
+}
+
+// a move: any index
+fn a_move(progress: Progress, body: &[u8]) -> Result<Progress, Cause>
+    requires { ⌜ progress .moves < 65536 ⌝ }
+    ensures { λ r. ⌜ stepOf r ≡ moveStep (tallyOf progress) (now (body .entry)) ⌝ }
+{
+    if !is_complete(&progress) {
+        return Err(Cause::OutOfTurn);
+    }
+    if body.len() != 2 {
+        return Err(Cause::WrongLength);
+    }
+    let Progress { n, variables, declared, constraints, moves, reached } = progress;
+    Ok(Progress { n, variables, declared, constraints, moves: moves + 1, reached })
 }

@@ -60,6 +60,9 @@ abbrev pub used : List Variable → ℕ → Bool
 used [] h = false
 used (v ∷ vs) h = eqb (v .house) h || used vs h
 
+abbrev pub houseGood : Tally → ℕ → Bool
+houseGood g h = ltb h (g .n) && not (used (g .variables) h)
+
 abbrev pub endsGood : ℕ → ℕ → ℕ → Bool
 endsGood n a b = ltb a n && (ltb b n && not (eqb a b))
 
@@ -69,6 +72,11 @@ betweenZ low high z = leZ low z && leZ z high
 -- the factors of a sum lie from -1,000 to 1,000, and its limits are in order
 abbrev pub sumGood : ℤ → ℤ → ℤ → ℤ → Bool
 sumGood m k lo hi = betweenZ (negsuc 999) (pos 1000) m && (betweenZ (negsuc 999) (pos 1000) k && leZ lo hi)
+
+-- the same of a sum's body, which has its ends first
+abbrev pub sumBodyGood : List ℕ → Bool
+sumBodyGood body =
+    sumGood (toZ w16 (number2 body 2)) (toZ w16 (number2 body 4)) (toZ w32 (number4 body 6)) (toZ w32 (number4 body 10))
 
 -- the first so many rows, of eight bytes each, have no bit at or above the size
 unfoldable pub rowsGood : ℕ → ℕ → List ℕ → Bool
@@ -107,14 +115,14 @@ variableStep g body after =
     unless (ltb (length (g .variables)) (g .n)) OutOfTurn
     (unless (eqb (length body) 4) WrongLength
     (unless (between 1 64 (number2 body 0)) BadSize
-    (unless (ltb (number2 body 2) (g .n) && not (used (g .variables) (number2 body 2))) BadHouse
+    (unless (houseGood g (number2 body 2)) BadHouse
     (goes (withVariable g (variableOf body) after)))))
 
 abbrev pub sumStep : Tally → List ℕ → ℕ → Step
 sumStep g body after =
     unless (eqb (length body) 14) WrongLength
     (unless (endsGood (g .n) (getD body 0 0) (getD body 1 0)) BadEnds
-    (unless (sumGood (toZ w16 (number2 body 2)) (toZ w16 (number2 body 4)) (toZ w32 (number4 body 6)) (toZ w32 (number4 body 10))) BadSum
+    (unless (sumBodyGood body) BadSum
     (goes (withConstraint g after))))
 
 abbrev pub tableStep : Tally → ℕ → ℕ → List ℕ → ℕ → Step
