@@ -10,7 +10,8 @@ ghost use mir.Val.{toZ};
 ghost use mir.Syntax.{w16, w32};
 ghost use Rattle.sheet_format.specs.Numbers.{number2, number4, number8};
 ghost use Rattle.sheet_format.specs.Value.{sizeAt};
-ghost use Rattle.sheet_format.specs.Verdict.{used, rowsGood, endsGood, sumGood, sumBodyGood, betweenZ, complete, constraintsDue, nothingYet, headingStep, variableStep, sumStep, tableStep, moveStep, endStep, constraintStep, withConstraint, withVariable, houseGood, step};
+ghost use Rattle.sheet_format.specs.Verdict.{used, rowsGood, endsGood, sumGood, sumBodyGood, betweenZ, complete, constraintsDue, nothingYet, headingStep, variableStep, sumStep, tableStep, moveStep, endStep, constraintStep, withConstraint, withVariable, houseGood, step, stops};
+ghost use Rattle.sheet_format.specs.declared.faults.Cause.the-variants.{WrongLength};
 ghost use Rattle.sheet.specs.Outcome.{shownBy};
 ghost use Rattle.sheet.specs.Steps.{tallyOf, stepOf, flowOf};
 use crate::progress::Progress;
@@ -264,4 +265,74 @@ fn a_move(progress: Progress, body: &[u8]) -> Result<Progress, Cause>
     }
     let Progress { n, variables, declared, constraints, moves, reached } = progress;
     Ok(Progress { n, variables, declared, constraints, moves: moves + 1, reached })
+}
+
+// a sum constraint, in turn
+fn sum_in_turn(progress: Progress, body: &[u8], after: u32) -> Result<Progress, Cause>
+    ensures { λ r. ⌜ stepOf r ≡ constraintStep (tallyOf progress) (sumStep (tallyOf progress) (now (body .entry)) after) ⌝ }
+{
+    if !constraints_due(&progress) {
+        return Err(Cause::OutOfTurn);
+    }
+    if progress.constraints >= 96 {
+        return Err(Cause::TooManyConstraints);
+    }
+    sum(progress, body, after)
+}
+
+// a table constraint, in turn
+fn table_in_turn(progress: Progress, a: u8, b: u8, rows: &[u8], after: u32) -> Result<Progress, Cause>
+    ensures { λ r. ⌜ stepOf r ≡ constraintStep (tallyOf progress) (tableStep (tallyOf progress) a b (now (rows .entry)) after) ⌝ }
+{
+    if !constraints_due(&progress) {
+        return Err(Cause::OutOfTurn);
+    }
+    if progress.constraints >= 96 {
+        return Err(Cause::TooManyConstraints);
+    }
+    table(progress, a, b, rows, after)
+}
+
+// a table constraint without its ends is refused, in turn or not
+fn short_table(progress: &Progress) -> Cause
+    ensures { λ r. ⌜ stops r ≡ constraintStep (tallyOf (now (progress .entry))) (stops WrongLength) ⌝ }
+{
+    if !constraints_due(progress) {
+        return Cause::OutOfTurn;
+    }
+    if progress.constraints >= 96 {
+        return Cause::TooManyConstraints;
+    }
+    Cause::WrongLength
+}
+
+// the end record: nothing more is due
+fn ending(progress: &Progress, body: &[u8]) -> Result<Flow, Cause>
+    ensures { λ r. ⌜ flowOf r ≡ endStep (tallyOf (now (progress .entry))) (now (body .entry)) ⌝ }
+{
+    if !is_complete(progress) {
+        return Err(Cause::OutOfTurn);
+    }
+    if body.len() != 0 {
+        return Err(Cause::WrongLength);
+    }
+    Ok(Flow::Ends)
+}
+
+// One record more, which ends before the byte `after` of the sheet.
+pub fn admit(progress: Progress, record: Record<'_>, after: u32) -> Result<Flow, Cause>
+    requires { ⌜ progress .moves < 65536 ⌝ }
+    ensures { λ r. ⌜ flowOf r ≡ step (tallyOf progress) (shownBy («record» .entry)) after ⌝ }
+{
+    let next = match record {
+        Record::Heading(body) => heading(progress, body, after)?,
+        Record::Variable(body) => variable(progress, body, after)?,
+        Record::Sum(body) => sum_in_turn(progress, body, after)?,
+        Record::Table(a, b, rows) => table_in_turn(progress, a, b, rows.bytes, after)?,
+        Record::ShortTable(_) => return Err(short_table(&progress)),
+        Record::Add(body) => a_move(progress, body)?,
+        Record::Retract(body) => a_move(progress, body)?,
+        Record::End(body) => return ending(&progress, body),
+    };
+    Ok(Flow::Goes(next))
 }
