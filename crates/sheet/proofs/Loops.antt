@@ -49,6 +49,7 @@ fits-shift row size = ⊎-elim below above (cases-lt row (2 ^ size))
     below h =
         let small : row / 2 ^ size < 1 = div-below row (2 ^ size) 1 (pow-pos size) (omega arith) in
         eq-eqb (row / 2 ^ size) 0 (omega arith) ∙ sym (lt-ltb row (2 ^ size) h)
+
     above : 2 ^ size ≤ row → eqb (row / 2 ^ size) 0 ≡ ltb row (2 ^ size)
     above h =
         let large : 1 ≤ row / 2 ^ size = le-div 1 row (2 ^ size) (pow-pos size) (omega arith) in

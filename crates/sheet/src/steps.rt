@@ -13,7 +13,7 @@ ghost use Rattle.sheet_format.specs.Value.{sizeAt};
 ghost use Rattle.sheet_format.specs.Verdict.{used, rowsGood, endsGood, sumGood, sumBodyGood, betweenZ, complete, constraintsDue, nothingYet, headingStep, variableStep, sumStep, tableStep, moveStep, endStep, constraintStep, withConstraint, withVariable, houseGood, step, stops};
 ghost use Rattle.sheet_format.specs.declared.faults.Cause.the-variants.{WrongLength};
 ghost use Rattle.sheet.specs.Outcome.{shownBy};
-ghost use Rattle.sheet.specs.Steps.{tallyOf, stepOf, flowOf};
+ghost use Rattle.sheet.specs.Steps.{tallyOf, stepOf, flowOf, Turn};
 use crate::progress::Progress;
 use crate::reader::Record;
 use sheet_format::Cause;
@@ -31,7 +31,14 @@ pub fn nothing_yet() -> Progress
     ensures { λ r. ⌜ tallyOf r ≡ nothingYet ⌝ }
 {
     let variables = [Variable { size: 0, house: 0 }; 32];
-    Progress { n: 0, variables, declared: 0, constraints: 0, moves: 0, reached: 0 }
+    Progress {
+        n: 0,
+        variables,
+        declared: 0,
+        constraints: 0,
+        moves: 0,
+        reached: 0,
+    }
 }
 
 // the number in two bytes, from the byte k on
@@ -61,7 +68,16 @@ fn row(rows: &[u8], k: usize) -> u64
     requires { ⌜ k + 7 < length (now rows) ⌝ }
     ensures { λ r. ⌜ r ≡ number8 (now (rows .entry)) k ⌝ }
 {
-    u64::from_le_bytes([rows[k], rows[k + 1], rows[k + 2], rows[k + 3], rows[k + 4], rows[k + 5], rows[k + 6], rows[k + 7]])
+    u64::from_le_bytes([
+        rows[k],
+        rows[k + 1],
+        rows[k + 2],
+        rows[k + 3],
+        rows[k + 4],
+        rows[k + 5],
+        rows[k + 6],
+        rows[k + 7],
+    ])
 }
 
 // an earlier variable has this house number
@@ -127,7 +143,12 @@ fn sum_body_good(body: &[u8]) -> bool
     requires { ⌜ length (now body) ≡ 14 ⌝ }
     ensures { λ r. ⌜ r ≡ sumBodyGood (now (body .entry)) ⌝ }
 {
-    sum_good(signed_word(body, 2), signed_word(body, 4), signed_long(body, 6), signed_long(body, 10))
+    sum_good(
+        signed_word(body, 2),
+        signed_word(body, 4),
+        signed_long(body, 6),
+        signed_long(body, 10),
+    )
 }
 
 // the heading and all variables are there
@@ -166,8 +187,21 @@ fn heading(progress: Progress, body: &[u8], after: u32) -> Result<Progress, Caus
     if word(body, 0) != 1 || n < 1 || n > 32 {
         return Err(Cause::BadHeading);
     }
-    let Progress { variables, declared, constraints, moves, .. } = progress;
-    Ok(Progress { n: n as usize, variables, declared, constraints, moves, reached: after })
+    let Progress {
+        variables,
+        declared,
+        constraints,
+        moves,
+        ..
+    } = progress;
+    Ok(Progress {
+        n: n as usize,
+        variables,
+        declared,
+        constraints,
+        moves,
+        reached: after,
+    })
 }
 
 // a variable more
@@ -175,9 +209,23 @@ fn with_variable(progress: Progress, variable: Variable, after: u32) -> Progress
     requires { ⌜ progress .declared < progress .n ⌝ }
     ensures { λ r. ⌜ tallyOf r ≡ withVariable (tallyOf progress) variable after ⌝ }
 {
-    let Progress { n, mut variables, declared, constraints, moves, .. } = progress;
+    let Progress {
+        n,
+        mut variables,
+        declared,
+        constraints,
+        moves,
+        ..
+    } = progress;
     variables[declared] = variable;
-    Progress { n, variables, declared: declared + 1, constraints, moves, reached: after }
+    Progress {
+        n,
+        variables,
+        declared: declared + 1,
+        constraints,
+        moves,
+        reached: after,
+    }
 }
 
 // the house number is below n and new
@@ -213,8 +261,22 @@ fn with_constraint(progress: Progress, after: u32) -> Progress
     requires { ⌜ progress .constraints < 96 ⌝ }
     ensures { λ r. ⌜ tallyOf r ≡ withConstraint (tallyOf progress) after ⌝ }
 {
-    let Progress { n, variables, declared, constraints, moves, .. } = progress;
-    Progress { n, variables, declared, constraints: constraints + 1, moves, reached: after }
+    let Progress {
+        n,
+        variables,
+        declared,
+        constraints,
+        moves,
+        ..
+    } = progress;
+    Progress {
+        n,
+        variables,
+        declared,
+        constraints: constraints + 1,
+        moves,
+        reached: after,
+    }
 }
 
 // a sum constraint
@@ -263,47 +325,65 @@ fn a_move(progress: Progress, body: &[u8]) -> Result<Progress, Cause>
     if body.len() != 2 {
         return Err(Cause::WrongLength);
     }
-    let Progress { n, variables, declared, constraints, moves, reached } = progress;
-    Ok(Progress { n, variables, declared, constraints, moves: moves + 1, reached })
+    let Progress {
+        n,
+        variables,
+        declared,
+        constraints,
+        moves,
+        reached,
+    } = progress;
+    Ok(Progress {
+        n,
+        variables,
+        declared,
+        constraints,
+        moves: moves + 1,
+        reached,
+    })
+}
+
+// a constraint may come here, and is at most the 96th
+fn constraint_turn(progress: &Progress) -> Result<(), Cause>
+    ensures { λ r. ⌜ Turn (tallyOf (now (progress .entry))) r ⌝ }
+{
+    if !constraints_due(progress) {
+        return Err(Cause::OutOfTurn);
+    }
+    if progress.constraints >= 96 {
+        return Err(Cause::TooManyConstraints);
+    }
+    Ok(())
 }
 
 // a sum constraint, in turn
 fn sum_in_turn(progress: Progress, body: &[u8], after: u32) -> Result<Progress, Cause>
     ensures { λ r. ⌜ stepOf r ≡ constraintStep (tallyOf progress) (sumStep (tallyOf progress) (now (body .entry)) after) ⌝ }
 {
-    if !constraints_due(&progress) {
-        return Err(Cause::OutOfTurn);
-    }
-    if progress.constraints >= 96 {
-        return Err(Cause::TooManyConstraints);
-    }
+    constraint_turn(&progress)?;
     sum(progress, body, after)
 }
 
 // a table constraint, in turn
-fn table_in_turn(progress: Progress, a: u8, b: u8, rows: &[u8], after: u32) -> Result<Progress, Cause>
+fn table_in_turn(
+    progress: Progress,
+    a: u8,
+    b: u8,
+    rows: &[u8],
+    after: u32,
+) -> Result<Progress, Cause>
     ensures { λ r. ⌜ stepOf r ≡ constraintStep (tallyOf progress) (tableStep (tallyOf progress) a b (now (rows .entry)) after) ⌝ }
 {
-    if !constraints_due(&progress) {
-        return Err(Cause::OutOfTurn);
-    }
-    if progress.constraints >= 96 {
-        return Err(Cause::TooManyConstraints);
-    }
+    constraint_turn(&progress)?;
     table(progress, a, b, rows, after)
 }
 
-// a table constraint without its ends is refused, in turn or not
-fn short_table(progress: &Progress) -> Cause
-    ensures { λ r. ⌜ stops r ≡ constraintStep (tallyOf (now (progress .entry))) (stops WrongLength) ⌝ }
+// a table constraint without both its ends, in turn
+fn short_table(progress: &Progress) -> Result<Flow, Cause>
+    ensures { λ r. ⌜ flowOf r ≡ constraintStep (tallyOf (now (progress .entry))) (stops WrongLength) ⌝ }
 {
-    if !constraints_due(progress) {
-        return Cause::OutOfTurn;
-    }
-    if progress.constraints >= 96 {
-        return Cause::TooManyConstraints;
-    }
-    Cause::WrongLength
+    constraint_turn(progress)?;
+    Err(Cause::WrongLength)
 }
 
 // the end record: nothing more is due
@@ -329,7 +409,7 @@ pub fn admit(progress: Progress, record: Record<'_>, after: u32) -> Result<Flow,
         Record::Variable(body) => variable(progress, body, after)?,
         Record::Sum(body) => sum_in_turn(progress, body, after)?,
         Record::Table(a, b, rows) => table_in_turn(progress, a, b, rows.bytes, after)?,
-        Record::ShortTable(_) => return Err(short_table(&progress)),
+        Record::ShortTable(_) => return short_table(&progress),
         Record::Add(body) => a_move(progress, body)?,
         Record::Retract(body) => a_move(progress, body)?,
         Record::End(body) => return ending(&progress, body),
