@@ -1,3 +1,2 @@
-mod Cuts
 mod Loops
 mod Answered

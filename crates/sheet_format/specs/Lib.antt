@@ -4,3 +4,5 @@ pub mod Value
 pub mod Encoding
 pub mod Reading
 pub mod Verdict
+pub mod Decoding
+pub mod Law

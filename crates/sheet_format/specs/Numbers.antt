@@ -8,10 +8,10 @@ abbrev pub two : ℕ → List ℕ
 two n = n % 256 ∷ (n / 256 % 256 ∷ [])
 
 abbrev pub four : ℕ → List ℕ
-four n = two n ++ two (n / 65536)
+four n = two (n % 65536) ++ two (n / 65536)
 
 abbrev pub eight : ℕ → List ℕ
-eight n = four n ++ four (n / 4294967296)
+eight n = four (n % 4294967296) ++ four (n / 4294967296)
 
 -- the number that stands in two, four or eight bytes, from the byte k on
 abbrev pub number2 : List ℕ → ℕ → ℕ

@@ -1,2 +1,4 @@
+pub mod NumberLaws
 pub mod Framing
 pub mod Held
+pub mod Walks

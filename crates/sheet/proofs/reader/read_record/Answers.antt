@@ -10,7 +10,7 @@ use Rattle.std.specs.declared.option.Option.the-variants.{Some}
 use Rattle.sheet_format.specs.Numbers.{number2}
 use Rattle.sheet_format.specs.Reading.{shown, taken}
 use Rattle.sheet.specs.Outcome.{shownBy}
-use Rattle.sheet.proofs.Cuts.{body-cut, rest-cut, whole-record}
+use Rattle.sheet_law.proofs.Framing.{body-cut, rest-cut, whole-record}
 use Rattle.sheet.proofs.reader.read_record.Needs as need
 
 pub returns-in-Some : need.returns-in-Some
