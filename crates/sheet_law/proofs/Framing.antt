@@ -80,7 +80,6 @@ Bytes xs = All (λ b. b < 256) xs
 pub record Short (r : Raw) : Type 0 where
   pub kind-low : r .kind < 65536
   pub length-low : 4 + length (r .body) < 65536
-  pub bytes : Bytes (r .body)
 
 pub framed-length : (r : Raw) (rest : List ℕ) → length (framed r ++ rest) ≡ 4 + (length (r .body) + length rest)
 framed-length r rest = let e = length-append (r .body) rest in omega arith
@@ -115,6 +114,7 @@ framed-read r rest place short =
 pub record Framed (xs : List ℕ) (place : ℕ) (s : Shown) (rest : List ℕ) : Type 0 where
   pub raw : Raw
   pub short : Short raw
+  pub bytes : Bytes (raw .body)
   pub same : xs ≡ framed raw ++ rest
   pub shows : shown (raw .kind) (raw .body) place ≡ Some s
 
@@ -148,7 +148,8 @@ framed-again (b0 ∷ (b1 ∷ (b2 ∷ (b3 ∷ ys)))) place s rest b t =
     let k = length-take (t .long - 4) ys in
     record
       { raw = record { kind = b2 + b3 * 256; body = take (t .long - 4) ys }
-      ; short = record { kind-low = omega arith; length-low = omega arith; bytes = all-take (λ x. x < 256) (t .long - 4) ys (b .1 .1 .1 .1) }
+      ; short = record { kind-low = omega arith; length-low = omega arith }
+      ; bytes = all-take (λ x. x < 256) (t .long - 4) ys (b .1 .1 .1 .1)
       ; same =
           frame-again b0 b1 b2 b3 (t .long) ys h0 h1 h2 h3 says low high
           ∙ ap (λ zs. framed (record { kind = b2 + b3 * 256; body = take (t .long - 4) ys }) ++ zs) (sym (t .leaves ∙ after))

@@ -85,6 +85,7 @@ pub record Accepted (xs : List ℕ) (g : Tally) (place : ℕ) (z : Summary) : Ty
   pub same : xs ≡ joined framed records
   pub runs : Runs g place records end
   pub short : All Short records
+  pub bytes : All (λ r. Bytes (r .body)) records
   pub sums-up : z ≡ summary end
 
 no-fault : (z : Summary) (cause : Cause) (byte n : ℕ) → formatFault cause byte n ≡ Ok z → ⊥
@@ -108,6 +109,7 @@ module _ (xs rest : List ℕ) (g : Tally) (place n : ℕ) (z : Summary) (s : Sho
         ; same = f .same ∙ ap (λ ys. framed (f .raw) ++ ys) none
         ; runs = (s, f .shows, inl (record { ended = e; alone = refl; same = refl }))
         ; short = (f .short, tt)
+        ; bytes = (f .bytes, tt)
         ; sums-up = same-summary (summary g) z v
         }
   at-end e false t v = absurd (no-fault z _ _ _ v)
@@ -121,6 +123,7 @@ module _ (xs rest : List ℕ) (g : Tally) (place n : ℕ) (z : Summary) (s : Sho
         ; same = f .same ∙ ap (λ ys. framed (f .raw) ++ ys) (a .same)
         ; runs = (s, f .shows, inr (h, e, a .runs))
         ; short = (f .short, a .short)
+        ; bytes = (f .bytes, a .bytes)
         ; sums-up = a .sums-up
         }
 
