@@ -7,7 +7,7 @@ use native.Mathlib.Omega.{arith}
 use lib.Dec.{ltb, eqb}
 use lib.ListN.{length, getD}
 use Rattle.sheet_format.specs.declared.faults.Cause.{Cause}
-use Rattle.sheet_format.specs.declared.faults.Cause.the-variants.{OutOfTurn, WrongLength}
+use Rattle.sheet_format.specs.declared.faults.Cause.the-variants.{OutOfTurn, TooManyConstraints, WrongLength, BadHeading, BadSize, BadHouse, BadEnds, BadSum, BadRow}
 use Rattle.sheet_format.specs.Numbers.{number2}
 use Rattle.sheet_format.specs.Value.{sizeAt}
 use Rattle.sheet_format.specs.Reading.{Shown, showsHeading, showsVariable, showsSum, showsTable, showsShortTable, showsAdd, showsRetract, showsEnd}
@@ -117,6 +117,93 @@ end-goes g body h e =
     let a = held (complete g) OutOfTurn _ h e in
     let b = held (eqb (length body) 0) WrongLength _ h (a .1) in
     goes-not-ends h (sym (b .1))
+
+-- what a record that goes on has passed, by what it shows
+abbrev pub GoesHeld : Tally → Shown → ℕ → Tally → Type 0
+GoesHeld g (showsHeading body) after h = HeadingHeld g body after h
+GoesHeld g (showsVariable body) after h = VariableHeld g body after h
+GoesHeld g (showsSum body) after h = ConstraintHeld g (sumStep g body after) h × SumHeld g body after h
+GoesHeld g (showsTable a b rows place) after h = ConstraintHeld g (tableStep g a b rows after) h × TableHeld g a b rows after h
+GoesHeld g (showsShortTable body) after h = ⊥
+GoesHeld g (showsAdd body) after h = MoveHeld g body h
+GoesHeld g (showsRetract body) after h = MoveHeld g body h
+GoesHeld g (showsEnd body) after h = ⊥
+
+pub goes-held : (g : Tally) (s : Shown) (after : ℕ) (h : Tally) → step g s after ≡ goes h → GoesHeld g s after h
+goes-held g (showsHeading body) after h e = heading-held g body after h e
+goes-held g (showsVariable body) after h e = variable-held g body after h e
+goes-held g (showsSum body) after h e = let c = constraint-held g (sumStep g body after) h e in (c, sum-held g body after h (c .further))
+goes-held g (showsTable a b rows place) after h e =
+    let c = constraint-held g (tableStep g a b rows after) h e in (c, table-held g a b rows after h (c .further))
+goes-held g (showsShortTable body) after h e = stopped WrongLength h (constraint-held g (stops WrongLength) h e .further)
+goes-held g (showsAdd body) after h e = move-held g body h e
+goes-held g (showsRetract body) after h e = move-held g body h e
+goes-held g (showsEnd body) after h e = end-goes g body h e
+
+-- only the end record ends
+abbrev pub EndHeld : Tally → Shown → Type 0
+EndHeld g (showsHeading body) = ⊥
+EndHeld g (showsVariable body) = ⊥
+EndHeld g (showsSum body) = ⊥
+EndHeld g (showsTable a b rows place) = ⊥
+EndHeld g (showsShortTable body) = ⊥
+EndHeld g (showsAdd body) = ⊥
+EndHeld g (showsRetract body) = ⊥
+EndHeld g (showsEnd body) = (complete g ≡ true) × (eqb (length body) 0 ≡ true)
+
+heading-end : (g : Tally) (body : List ℕ) (after : ℕ) → headingStep g body after ≡ ends → ⊥
+heading-end g body after e =
+    let p = held-end (eqb (g .n) 0) OutOfTurn _ e in
+    let q = held-end (eqb (length body) 4) WrongLength _ (p .1) in
+    let r = held-end (eqb (number2 body 0) 1 && between 1 32 (number2 body 2)) BadHeading _ (q .1) in
+    goes-not-ends (withHeading g (number2 body 2) after) (r .1)
+
+variable-end : (g : Tally) (body : List ℕ) (after : ℕ) → variableStep g body after ≡ ends → ⊥
+variable-end g body after e =
+    let p = held-end (ltb (length (g .variables)) (g .n)) OutOfTurn _ e in
+    let q = held-end (eqb (length body) 4) WrongLength _ (p .1) in
+    let r = held-end (between 1 64 (number2 body 0)) BadSize _ (q .1) in
+    let t = held-end (houseGood g (number2 body 2)) BadHouse _ (r .1) in
+    goes-not-ends (withVariable g (variableOf body) after) (t .1)
+
+constraint-end : (g : Tally) (next : Step) → constraintStep g next ≡ ends → next ≡ ends
+constraint-end g next e =
+    let a = held-end (constraintsDue g) OutOfTurn (unless (ltb (g .constraints) 96) TooManyConstraints next) e in
+    let b = held-end (ltb (g .constraints) 96) TooManyConstraints next (a .1) in
+    b .1
+
+sum-end : (g : Tally) (body : List ℕ) (after : ℕ) → sumStep g body after ≡ ends → ⊥
+sum-end g body after e =
+    let p = held-end (eqb (length body) 14) WrongLength _ e in
+    let q = held-end (endsGood (g .n) (getD body 0 0) (getD body 1 0)) BadEnds _ (p .1) in
+    let r = held-end (sumBodyGood body) BadSum _ (q .1) in
+    goes-not-ends (withConstraint g after) (r .1)
+
+table-end : (g : Tally) (a b : ℕ) (rows : List ℕ) (after : ℕ) → tableStep g a b rows after ≡ ends → ⊥
+table-end g a b rows after e =
+    let p = held-end (endsGood (g .n) a b) BadEnds _ e in
+    let q = held-end (eqb (length rows) (8 * sizeAt (g .variables) a)) WrongLength _ (p .1) in
+    let r = held-end (rowsGood (sizeAt (g .variables) a) (sizeAt (g .variables) b) rows) BadRow _ (q .1) in
+    goes-not-ends (withConstraint g after) (r .1)
+
+move-end : (g : Tally) (body : List ℕ) → moveStep g body ≡ ends → ⊥
+move-end g body e =
+    let p = held-end (complete g) OutOfTurn _ e in
+    let q = held-end (eqb (length body) 2) WrongLength _ (p .1) in
+    goes-not-ends (withMove g) (q .1)
+
+pub end-held : (g : Tally) (s : Shown) (after : ℕ) → step g s after ≡ ends → EndHeld g s
+end-held g (showsHeading body) after e = heading-end g body after e
+end-held g (showsVariable body) after e = variable-end g body after e
+end-held g (showsSum body) after e = sum-end g body after (constraint-end g (sumStep g body after) e)
+end-held g (showsTable a b rows place) after e = table-end g a b rows after (constraint-end g (tableStep g a b rows after) e)
+end-held g (showsShortTable body) after e = stopped-end WrongLength (constraint-end g (stops WrongLength) e)
+end-held g (showsAdd body) after e = move-end g body e
+end-held g (showsRetract body) after e = move-end g body e
+end-held g (showsEnd body) after e =
+    let a = held-end (complete g) OutOfTurn (unless (eqb (length body) 0) WrongLength ends) e in
+    let b = held-end (eqb (length body) 0) WrongLength ends (a .1) in
+    (a .0, b .0)
 
 -- a record adds at most one move
 pub step-moves : (g : Tally) (s : Shown) (after : ℕ) (h : Tally) → step g s after ≡ goes h → h .moves ≤ g .moves + 1

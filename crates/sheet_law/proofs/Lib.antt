@@ -5,3 +5,4 @@ pub mod Walks
 pub mod Shows
 pub mod Rows
 pub mod Items
+pub mod Houses
