@@ -6,3 +6,4 @@ pub mod Shows
 pub mod Rows
 pub mod Items
 pub mod Houses
+pub mod Backward
