@@ -7,3 +7,5 @@ pub mod Rows
 pub mod Items
 pub mod Houses
 pub mod Backward
+pub mod Variables
+pub mod Forward
