@@ -81,7 +81,7 @@ sum-goes n c place after a b vs m k lo hi some all few v =
     (pass (endsGood n a b) _ _ _ (subst (λ x. endsGood x a b ≡ true) all (valid-ends (length vs) a b (v .ends)))
     (pass (sumBodyGood (constraintRecord (sum a b m k lo hi) .body)) _ _ _ (sum-there (length vs) a b m k lo hi v .1) refl)))
 
-size-low : (n : ℕ) (vs : List Variable) (i : ℕ) → All (ValidVariable n) vs → i < length vs → sizeAt vs i ≤ 64
+pub size-low : (n : ℕ) (vs : List Variable) (i : ℕ) → All (ValidVariable n) vs → i < length vs → sizeAt vs i ≤ 64
 size-low n vs i valid l = all-getD (ValidVariable n) vs i noVariable l valid .few-values
 
 table-goes : (n c place after a b : ℕ) (vs : List Variable) (rows : List ℕ) → 1 ≤ n → length vs ≡ n → c < 96 → All (ValidVariable n) vs → ValidTable vs a b rows → (at : ℕ)

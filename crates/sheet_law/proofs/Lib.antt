@@ -9,3 +9,4 @@ pub mod Houses
 pub mod Backward
 pub mod Variables
 pub mod Forward
+pub mod Laws
