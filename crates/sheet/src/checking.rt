@@ -3,6 +3,7 @@ ghost use mathlib.Core.Path.{_≡_};
 ghost use Prim.Native.Nat.{suc, _+_, _<_, _≤_};
 ghost use lib.ListN.{length};
 ghost use Rattle.sheet_format.specs.Verdict.{verdict, walked, nothingYet, summary};
+ghost use Rattle.sheet_format.specs.Law.{Law};
 ghost use Rattle.sheet.specs.Steps.{tallyOf};
 ghost use Rattle.sheet.specs.Advance.{Advanced, placedResult};
 use crate::progress::Progress;
@@ -99,9 +100,10 @@ fn walk(sheet: &[u8]) -> Result<Summary, SheetFault>
     }
 }
 
-// Accepts a sheet, or finds its first fault.
+// Accepts a sheet, or finds its first fault. It accepts just the encodings of valid sheets.
 pub fn check(sheet: &[u8]) -> Result<Summary, SheetFault>
     ensures verdict { λ r. ⌜ r ≡ verdict (now (sheet .entry)) ⌝ }
+    ensures law { λ r. ⌜ Law (now (sheet .entry)) r ⌝ }
 {
     if sheet.len() > 65535 {
         let fault = FormatFault {

@@ -15,13 +15,13 @@ use Rattle.sheet_format.specs.Decoding.{decode}
 -- how much of everything a sheet has, and where in its bytes the constraints and the moves begin
 abbrev pub summaryOf : Sheet → Summary
 summaryOf s =
-    record
-      { variables = length (s .variables)
-      ; constraints = length (s .constraints)
-      ; moves = length (s .moves)
-      ; «constraints_at» = 8 + 8 * length (s .variables)
-      ; «moves_at» = 8 + 8 * length (s .variables) + length (joined framed (map constraintRecord (s .constraints)))
-      }
+    record {
+      variables = length (s .variables);
+      constraints = length (s .constraints);
+      moves = length (s .moves);
+      «constraints_at» = 8 + 8 * length (s .variables);
+      «moves_at» = 8 + 8 * length (s .variables) + length (joined framed (map constraintRecord (s .constraints)));
+    }
 
 -- the bytes are the encoding of a valid sheet, of that one only, and the summary is of it
 pub record Encodes (bytes : List ℕ) (found : Summary) : Type 0 where

@@ -57,20 +57,20 @@ module _ (g k : Tally) (place : ℕ) (r : Raw) (rs : List Raw) where
   tail-end : (body : List ℕ) → KindIs (r .kind) (r .body) (showsEnd body) → EndHeld g (showsEnd body) → rs ≡ [] → k ≡ g → g .constraints ≤ 96 → Tail g place (r ∷ rs) k
   tail-end body kind e none last few =
       let empty : r .body ≡ [] = kind .1 ∙ nil-from-length body (eqb-true (length body) 0 (e .1)) in
-      record
-        { constraints = []
-        ; moves = []
-        ; same = ap (λ q. q ∷ rs) (same-raw r 7 [] (kind .0) empty) ∙ ap (λ qs. endRecord ∷ qs) none
-        ; late = λ _. (refl, ap (λ t. t .reached) last)
-        ; constraints-valid = tt
-        ; moves-valid = tt
-        ; few = (let z = few in omega arith)
-        ; n-is = ap (λ t. t .n) last
-        ; variables-are = ap (λ t. t .variables) last
-        ; constraints-are = (let c = ap (λ t. t .constraints) last in omega arith)
-        ; moves-are = (let c = ap (λ t. t .moves) last in omega arith)
-        ; reached-is = λ m p. (let c = ap (λ t. t .reached) last in omega arith)
-        }
+      record {
+        constraints = [];
+        moves = [];
+        same = ap (λ q. q ∷ rs) (same-raw r 7 [] (kind .0) empty) ∙ ap (λ qs. endRecord ∷ qs) none;
+        late = λ _. (refl, ap (λ t. t .reached) last);
+        constraints-valid = tt;
+        moves-valid = tt;
+        few = (let z = few in omega arith);
+        n-is = ap (λ t. t .n) last;
+        variables-are = ap (λ t. t .variables) last;
+        constraints-are = (let c = ap (λ t. t .constraints) last in omega arith);
+        moves-are = (let c = ap (λ t. t .moves) last in omega arith);
+        reached-is = λ m p. (let c = ap (λ t. t .reached) last in omega arith);
+      }
 
   -- a move before the rest
   tail-move : (m : Move) → r ≡ moveRecord m → ValidMove m → (h : Tally) → h ≡ withMove g → (t : Tail h (past place r) rs k) → Tail g place (r ∷ rs) k
@@ -83,22 +83,22 @@ module _ (g k : Tally) (place : ℕ) (r : Raw) (rs : List Raw) where
       let l = t .late (λ z. omega arith) in
       let none : t .constraints ≡ [] = l .0 in
       let cs : length (t .constraints) ≡ 0 = ap length none in
-      record
-        { constraints = []
-        ; moves = m ∷ t .moves
-        ; same =
+      record {
+        constraints = [];
+        moves = m ∷ t .moves;
+        same =
             ap (λ q. q ∷ rs) e
-            ∙ ap (λ qs. moveRecord m ∷ qs) (t .same ∙ ap (λ qs. map constraintRecord qs ++ (map moveRecord (t .moves) ++ (endRecord ∷ []))) none)
-        ; late = λ _. (refl, l .1 ∙ hr)
-        ; constraints-valid = tt
-        ; moves-valid = (valid, t .moves-valid)
-        ; few = (let f = t .few in omega arith)
-        ; n-is = t .n-is ∙ hn
-        ; variables-are = t .variables-are ∙ hv
-        ; constraints-are = (let f = t .constraints-are in omega arith)
-        ; moves-are = (let f = t .moves-are in omega arith)
-        ; reached-is = λ z p. (let f = l .1 in omega arith)
-        }
+            ∙ ap (λ qs. moveRecord m ∷ qs) (t .same ∙ ap (λ qs. map constraintRecord qs ++ (map moveRecord (t .moves) ++ (endRecord ∷ []))) none);
+        late = λ _. (refl, l .1 ∙ hr);
+        constraints-valid = tt;
+        moves-valid = (valid, t .moves-valid);
+        few = (let f = t .few in omega arith);
+        n-is = t .n-is ∙ hn;
+        variables-are = t .variables-are ∙ hv;
+        constraints-are = (let f = t .constraints-are in omega arith);
+        moves-are = (let f = t .moves-are in omega arith);
+        reached-is = λ z p. (let f = l .1 in omega arith);
+      }
 
   -- a constraint before the rest
   tail-constraint : (c : Constraint) → r ≡ constraintRecord c → ValidConstraint (g .variables) c → g .moves ≡ 0 → (h : Tally) → h ≡ withConstraint g (past place r) → (t : Tail h (past place r) rs k) → Tail g place (r ∷ rs) k
@@ -109,21 +109,21 @@ module _ (g k : Tally) (place : ℕ) (r : Raw) (rs : List Raw) where
       let hv : h .variables ≡ g .variables = ap (λ x. x .variables) is in
       let hr : h .reached ≡ past place r = ap (λ x. x .reached) is in
       let long : length (joined framed (map constraintRecord (c ∷ t .constraints))) ≡ 4 + (length (r .body) + length (joined framed (map constraintRecord (t .constraints)))) =
-          ap (λ q. length (framed q ++ joined framed (map constraintRecord (t .constraints)))) (sym e) ∙ framed-length r (joined framed (map constraintRecord (t .constraints))) in
-      record
-        { constraints = c ∷ t .constraints
-        ; moves = t .moves
-        ; same = ap (λ q. q ∷ rs) e ∙ ap (λ qs. constraintRecord c ∷ qs) (t .same)
-        ; late = λ z. absurd (z early)
-        ; constraints-valid = (valid, subst (λ vs. All (ValidConstraint vs) (t .constraints)) hv (t .constraints-valid))
-        ; moves-valid = t .moves-valid
-        ; few = (let f = t .few in omega arith)
-        ; n-is = t .n-is ∙ hn
-        ; variables-are = t .variables-are ∙ hv
-        ; constraints-are = (let f = t .constraints-are in omega arith)
-        ; moves-are = (let f = t .moves-are in omega arith)
-        ; reached-is = λ z p. (let f = t .reached-is (hm ∙ early) hr in omega arith)
-        }
+      ap (λ q. length (framed q ++ joined framed (map constraintRecord (t .constraints)))) (sym e) ∙ framed-length r (joined framed (map constraintRecord (t .constraints))) in
+      record {
+        constraints = c ∷ t .constraints;
+        moves = t .moves;
+        same = ap (λ q. q ∷ rs) e ∙ ap (λ qs. constraintRecord c ∷ qs) (t .same);
+        late = λ z. absurd (z early);
+        constraints-valid = (valid, subst (λ vs. All (ValidConstraint vs) (t .constraints)) hv (t .constraints-valid));
+        moves-valid = t .moves-valid;
+        few = (let f = t .few in omega arith);
+        n-is = t .n-is ∙ hn;
+        variables-are = t .variables-are ∙ hv;
+        constraints-are = (let f = t .constraints-are in omega arith);
+        moves-are = (let f = t .moves-are in omega arith);
+        reached-is = λ z p. (let f = t .reached-is (hm ∙ early) hr in omega arith);
+      }
 
 -- a state in which all variables are there
 pub record Whole (g : Tally) : Type 0 where
@@ -150,8 +150,8 @@ tail-more g k place r rs (showsSum body) w b kind h q go =
     let whole : Whole h = record { some = subst (λ m. 0 < m) (sym (ap (λ t. t .n) (q .1 .result))) (w .some); all = ap (λ t. length (t .variables)) (q .1 .result) ∙ w .all ∙ sym (ap (λ t. t .n) (q .1 .result)); few = (let c = ap (λ t. t .constraints) (q .1 .result) in omega arith) } in
     let again = sum-again body (subst Bytes here b) (eqb-true (length body) 14 (q .1 .long)) in
     tail-constraint g k place r rs (sumIn body) (same-raw r 3 (constraintRecord (sumIn body) .body) (kind .0) (here ∙ again .0))
-      (sum-valid (length (g .variables)) body (subst (λ m. endsGood m (getD body 0 0) (getD body 1 0) ≡ true) (sym (w .all)) (q .1 .ends-good)) (q .1 .good) (again .1) (again .2))
-      (due-early g (q .0 .due)) h (q .1 .result) (go whole)
+    (sum-valid (length (g .variables)) body (subst (λ m. endsGood m (getD body 0 0) (getD body 1 0) ≡ true) (sym (w .all)) (q .1 .ends-good)) (q .1 .good) (again .1) (again .2))
+    (due-early g (q .0 .due)) h (q .1 .result) (go whole)
 tail-more g k place r rs (showsTable x y rows at) w b kind h q go =
     let here : r .body ≡ x ∷ (y ∷ rows) = kind .1 in
     let few = ltb-true _ _ (q .0 .few) in
@@ -161,9 +161,9 @@ tail-more g k place r rs (showsTable x y rows at) w b kind h q go =
     let size : ℕ = sizeAt (g .variables) y in
     let back : RowsBack count size rows = rows-back count size rows bytes (eqb-true (length rows) (8 * count) (q .1 .long)) (q .1 .good) in
     tail-constraint g k place r rs (table x y (rowsIn count rows))
-      (same-raw r 4 (x ∷ (y ∷ joined eight (rowsIn count rows))) (kind .0) (here ∙ ap (λ zs. x ∷ (y ∷ zs)) (back .same)))
-      (record { ends = subst (λ m. ValidEnds m x y) (sym (w .all)) (ends-valid (g .n) x y (q .1 .ends-good)); a-row-each = back .many; low-bits = back .low })
-      (due-early g (q .0 .due)) h (q .1 .result) (go whole)
+    (same-raw r 4 (x ∷ (y ∷ joined eight (rowsIn count rows))) (kind .0) (here ∙ ap (λ zs. x ∷ (y ∷ zs)) (back .same)))
+    (record { ends = subst (λ m. ValidEnds m x y) (sym (w .all)) (ends-valid (g .n) x y (q .1 .ends-good)); a-row-each = back .many; low-bits = back .low })
+    (due-early g (q .0 .due)) h (q .1 .result) (go whole)
 tail-more g k place r rs (showsShortTable body) w b kind h q go = absurd q
 tail-more g k place r rs (showsAdd body) w b kind h q go =
     let m = move-is r body b (kind .1) (q .long) in
@@ -191,6 +191,6 @@ tail-back (r ∷ rs) g k place w b run =
     let s : Shown = run .0 in
     let kind = kind-is (r .kind) (r .body) place s (run .1) in
     ⊎-elim
-      (λ (d : Ended g place r s rs k). tail-ended g k place r rs s w kind (end-held g s (past place r) (d .ended)) (d .alone) (d .same))
-      (λ (o : Onward g place r s rs k). tail-more g k place r rs s w (b .0) kind (o .0) (goes-held g s (past place r) (o .0) (o .1)) (λ v. tail-back rs (o .0) k (past place r) v (b .1) (o .2)))
-      (run .2)
+    (λ (d : Ended g place r s rs k). tail-ended g k place r rs s w kind (end-held g s (past place r) (d .ended)) (d .alone) (d .same))
+    (λ (o : Onward g place r s rs k). tail-more g k place r rs s w (b .0) kind (o .0) (goes-held g s (past place r) (o .0) (o .1)) (λ v. tail-back rs (o .0) k (past place r) v (b .1) (o .2)))
+    (run .2)

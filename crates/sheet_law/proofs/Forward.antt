@@ -47,26 +47,26 @@ complete-is n c m p vs some all =
 pub moves-there : (ms : List Move) (n c m p place : ℕ) (vs : List Variable) → 1 ≤ n → length vs ≡ n → All ValidMove ms
     → Runs (tally n vs c m p) place (map moveRecord ms ++ (endRecord ∷ [])) (tally n vs c (m + length ms) p)
 moves-there [] n c m p place vs some all valid =
-    let same : m + 0 ≡ m = omega arith in
-    ( showsEnd []
-    , refl
-    , inl
-        (record
-          { ended = ap (λ b. unless b OutOfTurn ends) (complete-is n c m p vs some all)
-          ; alone = refl
-          ; same = ap (λ x. tally n vs c x p) same
-          })
+    let same : m + 0 ≡ m = omega arith in (
+      showsEnd [],
+      refl,
+      inl
+          (record {
+            ended = ap (λ b. unless b OutOfTurn ends) (complete-is n c m p vs some all);
+            alone = refl;
+            same = ap (λ x. tally n vs c x p) same;
+          }),
     )
 moves-there (add q ∷ ms) n c m p place vs some all valid =
     let same : m + 1 + length ms ≡ m + length (add q ∷ ms) = omega arith in
     before (tally n vs c m p) (tally n vs c (m + 1) p) _ place (moveRecord (add q)) (showsAdd (two q)) (map moveRecord ms ++ (endRecord ∷ [])) refl
-      (pass (complete (tally n vs c m p)) _ _ _ (complete-is n c m p vs some all) refl)
-      (subst (λ x. Runs (tally n vs c (m + 1) p) (past place (moveRecord (add q))) (map moveRecord ms ++ (endRecord ∷ [])) (tally n vs c x p)) same (moves-there ms n c (m + 1) p (past place (moveRecord (add q))) vs some all (valid .1)))
+    (pass (complete (tally n vs c m p)) _ _ _ (complete-is n c m p vs some all) refl)
+    (subst (λ x. Runs (tally n vs c (m + 1) p) (past place (moveRecord (add q))) (map moveRecord ms ++ (endRecord ∷ [])) (tally n vs c x p)) same (moves-there ms n c (m + 1) p (past place (moveRecord (add q))) vs some all (valid .1)))
 moves-there (retract q ∷ ms) n c m p place vs some all valid =
     let same : m + 1 + length ms ≡ m + length (retract q ∷ ms) = omega arith in
     before (tally n vs c m p) (tally n vs c (m + 1) p) _ place (moveRecord (retract q)) (showsRetract (two q)) (map moveRecord ms ++ (endRecord ∷ [])) refl
-      (pass (complete (tally n vs c m p)) _ _ _ (complete-is n c m p vs some all) refl)
-      (subst (λ x. Runs (tally n vs c (m + 1) p) (past place (moveRecord (retract q))) (map moveRecord ms ++ (endRecord ∷ [])) (tally n vs c x p)) same (moves-there ms n c (m + 1) p (past place (moveRecord (retract q))) vs some all (valid .1)))
+    (pass (complete (tally n vs c m p)) _ _ _ (complete-is n c m p vs some all) refl)
+    (subst (λ x. Runs (tally n vs c (m + 1) p) (past place (moveRecord (retract q))) (map moveRecord ms ++ (endRecord ∷ [])) (tally n vs c x p)) same (moves-there ms n c (m + 1) p (past place (moveRecord (retract q))) vs some all (valid .1)))
 
 -- the place after one record more
 past-all : (place : ℕ) (r : Raw) (rs : List Raw) → past place r + length (joined framed rs) ≡ place + length (joined framed (r ∷ rs))
@@ -110,19 +110,19 @@ constraints-there (sum a b m l lo hi ∷ cs) n c place vs rest k some all valid 
     let q : ℕ = past place (constraintRecord (sum a b m l lo hi)) in
     let e : c + length (sum a b m l lo hi ∷ cs) ≡ c + 1 + length cs = omega arith in
     before (tally n vs c 0 place) (tally n vs (c + 1) 0 q) k place r (showsSum (r .body)) (map constraintRecord cs ++ rest) refl
-      (sum-goes n c place q a b vs m l lo hi some all (omega arith) (good .0))
-      (constraints-there cs n (c + 1) q vs rest k some all valid (good .1) (omega arith)
-        (subst (λ x. Runs (tally n vs x 0 (q + length (joined framed (map constraintRecord cs)))) (q + length (joined framed (map constraintRecord cs))) rest k) e
-          (subst (λ p. Runs (tally n vs (c + length (sum a b m l lo hi ∷ cs)) 0 p) p rest k) (sym (past-all place r (map constraintRecord cs))) run)))
+    (sum-goes n c place q a b vs m l lo hi some all (omega arith) (good .0))
+    (constraints-there cs n (c + 1) q vs rest k some all valid (good .1) (omega arith)
+    (subst (λ x. Runs (tally n vs x 0 (q + length (joined framed (map constraintRecord cs)))) (q + length (joined framed (map constraintRecord cs))) rest k) e
+    (subst (λ p. Runs (tally n vs (c + length (sum a b m l lo hi ∷ cs)) 0 p) p rest k) (sym (past-all place r (map constraintRecord cs))) run)))
 constraints-there (table a b rows ∷ cs) n c place vs rest k some all valid good few run =
     let r : Raw = constraintRecord (table a b rows) in
     let q : ℕ = past place (constraintRecord (table a b rows)) in
     let e : c + length (table a b rows ∷ cs) ≡ c + 1 + length cs = omega arith in
     before (tally n vs c 0 place) (tally n vs (c + 1) 0 q) k place r (showsTable a b (joined eight rows) (place + 6)) (map constraintRecord cs ++ rest) (table-shown a b place rows)
-      (table-goes n c place q a b vs rows some all (omega arith) valid (good .0) (place + 6))
-      (constraints-there cs n (c + 1) q vs rest k some all valid (good .1) (omega arith)
-        (subst (λ x. Runs (tally n vs x 0 (q + length (joined framed (map constraintRecord cs)))) (q + length (joined framed (map constraintRecord cs))) rest k) e
-          (subst (λ p. Runs (tally n vs (c + length (table a b rows ∷ cs)) 0 p) p rest k) (sym (past-all place r (map constraintRecord cs))) run)))
+    (table-goes n c place q a b vs rows some all (omega arith) valid (good .0) (place + 6))
+    (constraints-there cs n (c + 1) q vs rest k some all valid (good .1) (omega arith)
+    (subst (λ x. Runs (tally n vs x 0 (q + length (joined framed (map constraintRecord cs)))) (q + length (joined framed (map constraintRecord cs))) rest k) e
+    (subst (λ p. Runs (tally n vs (c + length (table a b rows ∷ cs)) 0 p) p rest k) (sym (past-all place r (map constraintRecord cs))) run)))
 
 -- a valid variable goes on
 variable-goes : (n place after : ℕ) (us : List Variable) (v : Variable) → n ≤ 32 → length us < n → ValidVariable n v → used us (v .house) ≡ false
@@ -136,8 +136,8 @@ variable-goes n place after us v small due valid new =
     pass (ltb (length us) n) _ _ _ (lt-ltb _ _ due)
     (pass (between 1 64 (number2 (variableRecord v .body) 0)) _ _ _ (subst (λ x. between 1 64 x ≡ true) (sym size) (is-between 1 64 (v .size) (valid .some-values) few))
     (pass (houseGood (tally n us 0 0 place) (number2 (variableRecord v .body) 2)) _ _ _
-      (subst (λ x. houseGood (tally n us 0 0 place) x ≡ true) (sym house) (and-from _ _ (lt-ltb _ _ low) (not-from-false _ new)))
-      (ap (λ x. goes (tally n (us ++ (x ∷ [])) 0 0 after)) same)))
+    (subst (λ x. houseGood (tally n us 0 0 place) x ≡ true) (sym house) (and-from _ _ (lt-ltb _ _ low) (not-from-false _ new)))
+    (ap (λ x. goes (tally n (us ++ (x ∷ [])) 0 0 after)) same)))
 
 pub variables-there : (vs : List Variable) (n place : ℕ) (us : List Variable) (rest : List Raw) (k : Tally) → n ≤ 32 → length us + length vs ≤ n → All (ValidVariable n) vs → HousesDiffer (us ++ vs)
     → Runs (tally n (us ++ vs) 0 0 (place + 8 * length vs)) (place + 8 * length vs) rest k
@@ -150,9 +150,9 @@ variables-there (v ∷ vs) n place us rest k small room valid differ run =
     let far : place + 8 * length (v ∷ vs) ≡ place + 8 + 8 * length vs = omega arith in
     let many = length-append us (v ∷ []) in
     before (tally n us 0 0 place) (tally n (us ++ (v ∷ [])) 0 0 (place + 8)) k place (variableRecord v) (showsVariable (variableRecord v .body)) (map variableRecord vs ++ rest) refl
-      (variable-goes n place (place + 8) us v small (omega arith) (valid .0) (fresh us v vs differ))
-      (variables-there vs n (place + 8) (us ++ (v ∷ [])) rest k small (omega arith) (valid .1) (subst HousesDiffer regroup differ)
-        (subst (λ p. Runs (tally n ((us ++ (v ∷ [])) ++ vs) 0 0 p) p rest k) far (subst (λ ws. Runs (tally n ws 0 0 (place + 8 * length (v ∷ vs))) (place + 8 * length (v ∷ vs)) rest k) regroup run)))
+    (variable-goes n place (place + 8) us v small (omega arith) (valid .0) (fresh us v vs differ))
+    (variables-there vs n (place + 8) (us ++ (v ∷ [])) rest k small (omega arith) (valid .1) (subst HousesDiffer regroup differ)
+    (subst (λ p. Runs (tally n ((us ++ (v ∷ [])) ++ vs) 0 0 p) p rest k) far (subst (λ ws. Runs (tally n ws 0 0 (place + 8 * length (v ∷ vs))) (place + 8 * length (v ∷ vs)) rest k) regroup run)))
 
 heading-goes : (n : ℕ) → 1 ≤ n → n ≤ 32 → step nothingYet (showsHeading (headingRecord n .body)) 8 ≡ goes (tally n [] 0 0 8)
 heading-goes n some few =
@@ -163,18 +163,18 @@ heading-goes n some few =
 abbrev pub lastTally : Sheet → Tally
 lastTally s =
     tally (length (s .variables)) (s .variables) (length (s .constraints)) (length (s .moves))
-      (8 + 8 * length (s .variables) + length (joined framed (map constraintRecord (s .constraints))))
+    (8 + 8 * length (s .variables) + length (joined framed (map constraintRecord (s .constraints))))
 
 pub sheet-runs : (s : Sheet) → Valid s → Runs nothingYet 0 (recordsOf s) (lastTally s)
 sheet-runs s v =
     let n : ℕ = length (s .variables) in
     let p : ℕ = 8 + 8 * length (s .variables) + length (joined framed (map constraintRecord (s .constraints))) in
     before nothingYet (tally n [] 0 0 8) (lastTally s) 0 (headingRecord n) (showsHeading (headingRecord n .body)) _ refl
-      (heading-goes n (v .some-variables) (v .few-variables))
-      (variables-there (s .variables) n 8 [] _ (lastTally s) (v .few-variables) (omega arith) (v .variables-valid) (v .houses-differ)
-        (constraints-there (s .constraints) n 0 (8 + 8 * n) (s .variables) _ (lastTally s) (v .some-variables) refl (v .variables-valid) (v .constraints-valid) (let f = v .few-constraints in omega arith)
-          (let none : 0 + length (s .constraints) ≡ length (s .constraints) = omega arith in
-          subst (λ c. Runs (tally n (s .variables) c 0 p) p (map moveRecord (s .moves) ++ (endRecord ∷ [])) (lastTally s)) (sym none)
-            (let zero-moves : 0 + length (s .moves) ≡ length (s .moves) = omega arith in
-            subst (λ m. Runs (tally n (s .variables) (length (s .constraints)) 0 p) p (map moveRecord (s .moves) ++ (endRecord ∷ [])) (tally n (s .variables) (length (s .constraints)) m p)) zero-moves
-              (moves-there (s .moves) n (length (s .constraints)) 0 p p (s .variables) (v .some-variables) refl (v .moves-valid))))))
+    (heading-goes n (v .some-variables) (v .few-variables))
+    (variables-there (s .variables) n 8 [] _ (lastTally s) (v .few-variables) (omega arith) (v .variables-valid) (v .houses-differ)
+    (constraints-there (s .constraints) n 0 (8 + 8 * n) (s .variables) _ (lastTally s) (v .some-variables) refl (v .variables-valid) (v .constraints-valid) (let f = v .few-constraints in omega arith)
+    (let none : 0 + length (s .constraints) ≡ length (s .constraints) = omega arith in
+    subst (λ c. Runs (tally n (s .variables) c 0 p) p (map moveRecord (s .moves) ++ (endRecord ∷ [])) (lastTally s)) (sym none)
+    (let zero-moves : 0 + length (s .moves) ≡ length (s .moves) = omega arith in
+    subst (λ m. Runs (tally n (s .variables) (length (s .constraints)) 0 p) p (map moveRecord (s .moves) ++ (endRecord ∷ [])) (tally n (s .variables) (length (s .constraints)) m p)) zero-moves
+    (moves-there (s .moves) n (length (s .constraints)) 0 p p (s .variables) (v .some-variables) refl (v .moves-valid))))))

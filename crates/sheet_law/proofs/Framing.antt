@@ -90,12 +90,12 @@ pub framed-first : (r : Raw) (rest : List ℕ) → Short r
     × (number2 (framed r ++ rest) 2 ≡ r .kind)
     × (drop 4 (take (4 + length (r .body)) (framed r ++ rest)) ≡ r .body)
     × (drop (4 + length (r .body)) (framed r ++ rest) ≡ rest)
-framed-first r rest short =
-    ( two-back (4 + length (r .body)) (two (r .kind) ++ (r .body ++ rest)) (short .length-low)
-    , two-back (r .kind) (r .body ++ rest) (short .kind-low)
-    , drop-take 4 (length (r .body)) (framed r ++ rest) ∙ take-at (r .body) rest (length (r .body)) refl
-    , sym (drop-drop (length (r .body)) 4 (framed r ++ rest)) ∙ drop-at (r .body) rest (length (r .body)) refl
-    )
+framed-first r rest short = (
+  two-back (4 + length (r .body)) (two (r .kind) ++ (r .body ++ rest)) (short .length-low),
+  two-back (r .kind) (r .body ++ rest) (short .kind-low),
+  drop-take 4 (length (r .body)) (framed r ++ rest) ∙ take-at (r .body) rest (length (r .body)) refl,
+  sym (drop-drop (length (r .body)) 4 (framed r ++ rest)) ∙ drop-at (r .body) rest (length (r .body)) refl,
+)
 
 -- reading a framed record gives it back, with what follows it
 pub framed-read : (r : Raw) (rest : List ℕ) (place : ℕ) → Short r → reading (framed r ++ rest) place ≡ takenIf (shown (r .kind) (r .body) place) rest
@@ -107,7 +107,7 @@ framed-read r rest place short =
     let many : 4 ≤ length (framed r ++ rest) = omega arith in
     let fits : 4 + length (r .body) ≤ length (framed r ++ rest) = omega arith in
     whole-record xs place n (shown (r .kind) (r .body) place) many (sym (f .0)) (omega arith) fits
-      (ap (λ k. shown k (drop 4 (take n xs)) place) (f .1) ∙ ap (λ b. shown (r .kind) b place) (f .2))
+    (ap (λ k. shown k (drop 4 (take n xs)) place) (f .1) ∙ ap (λ b. shown (r .kind) b place) (f .2))
     ∙ ap (takenIf (shown (r .kind) (r .body) place)) (f .3)
 
 -- the first record that a reading took, framed again
@@ -123,10 +123,10 @@ frame-again : (b0 b1 b2 b3 n : ℕ) (ys : List ℕ) → b0 < 256 → b1 < 256 �
 frame-again b0 b1 b2 b3 n ys h0 h1 h2 h3 e low high =
     let l : 4 + length (take (n - 4) ys) ≡ b0 + b1 * 256 = let k = length-take (n - 4) ys in omega arith in
     sym
-      (ap (λ m. two m ++ (two (b2 + b3 * 256) ++ (take (n - 4) ys ++ drop (n - 4) ys))) l
-      ∙ ap (λ zs. zs ++ (two (b2 + b3 * 256) ++ (take (n - 4) ys ++ drop (n - 4) ys))) (two-out b0 b1 h0 h1)
-      ∙ ap (λ zs. b0 ∷ (b1 ∷ (zs ++ (take (n - 4) ys ++ drop (n - 4) ys)))) (two-out b2 b3 h2 h3)
-      ∙ ap (λ zs. b0 ∷ (b1 ∷ (b2 ∷ (b3 ∷ zs)))) (take-append-drop (n - 4) ys))
+    (ap (λ m. two m ++ (two (b2 + b3 * 256) ++ (take (n - 4) ys ++ drop (n - 4) ys))) l
+    ∙ ap (λ zs. zs ++ (two (b2 + b3 * 256) ++ (take (n - 4) ys ++ drop (n - 4) ys))) (two-out b0 b1 h0 h1)
+    ∙ ap (λ zs. b0 ∷ (b1 ∷ (zs ++ (take (n - 4) ys ++ drop (n - 4) ys)))) (two-out b2 b3 h2 h3)
+    ∙ ap (λ zs. b0 ∷ (b1 ∷ (b2 ∷ (b3 ∷ zs)))) (take-append-drop (n - 4) ys))
 
 pub framed-again : (xs : List ℕ) (place : ℕ) (s : Shown) (rest : List ℕ) → Bytes xs → Took xs place s rest → Framed xs place s rest
 framed-again [] place s rest b t = absurd (let l = t .at-least in let m = t .at-most in omega arith)
@@ -146,12 +146,12 @@ framed-again (b0 ∷ (b1 ∷ (b2 ∷ (b3 ∷ ys)))) place s rest b t =
     let h2 : b2 < 256 = b .1 .1 .0 in
     let h3 : b3 < 256 = b .1 .1 .1 .0 in
     let k = length-take (t .long - 4) ys in
-    record
-      { raw = record { kind = b2 + b3 * 256; body = take (t .long - 4) ys }
-      ; short = record { kind-low = omega arith; length-low = omega arith }
-      ; bytes = all-take (λ x. x < 256) (t .long - 4) ys (b .1 .1 .1 .1)
-      ; same =
+    record {
+      raw = record { kind = b2 + b3 * 256; body = take (t .long - 4) ys };
+      short = record { kind-low = omega arith; length-low = omega arith };
+      bytes = all-take (λ x. x < 256) (t .long - 4) ys (b .1 .1 .1 .1);
+      same =
           frame-again b0 b1 b2 b3 (t .long) ys h0 h1 h2 h3 says low high
-          ∙ ap (λ zs. framed (record { kind = b2 + b3 * 256; body = take (t .long - 4) ys }) ++ zs) (sym (t .leaves ∙ after))
-      ; shows = ap (λ body. shown (b2 + b3 * 256) body place) (sym cut) ∙ t .shows
-      }
+          ∙ ap (λ zs. framed (record { kind = b2 + b3 * 256; body = take (t .long - 4) ys }) ++ zs) (sym (t .leaves ∙ after));
+      shows = ap (λ body. shown (b2 + b3 * 256) body place) (sym cut) ∙ t .shows;
+    }

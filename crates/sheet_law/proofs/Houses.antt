@@ -36,18 +36,19 @@ house-at us v ws = ap (λ x. x .house) (getD-at us v ws noVariable (length us) r
 pub differ-push : (us : List Variable) (v : Variable) → HousesDiffer us → used us (v .house) ≡ false → HousesDiffer (us ++ v ∷ [])
 differ-push us v d e i j li lj f =
     ⊎-elim
-      (λ hi. ⊎-elim
-        (λ hj. d i j hi hj (sym (house-before us (v ∷ []) i hi) ∙ f ∙ house-before us (v ∷ []) j hj))
-        (λ hj. absurd (used-none us (v .house) e i hi (sym (house-before us (v ∷ []) i hi) ∙ f ∙ last j hj lj)))
-        (cases-lt j (length us)))
-      (λ hi. ⊎-elim
-        (λ hj. absurd (used-none us (v .house) e j hj (sym (house-before us (v ∷ []) j hj) ∙ sym f ∙ last i hi li)))
-        (λ hj. let a = at-end i hi li in let b = at-end j hj lj in a ∙ sym b)
-        (cases-lt j (length us)))
-      (cases-lt i (length us))
+    (λ hi. ⊎-elim
+    (λ hj. d i j hi hj (sym (house-before us (v ∷ []) i hi) ∙ f ∙ house-before us (v ∷ []) j hj))
+    (λ hj. absurd (used-none us (v .house) e i hi (sym (house-before us (v ∷ []) i hi) ∙ f ∙ last j hj lj)))
+    (cases-lt j (length us)))
+    (λ hi. ⊎-elim
+    (λ hj. absurd (used-none us (v .house) e j hj (sym (house-before us (v ∷ []) j hj) ∙ sym f ∙ last i hi li)))
+    (λ hj. let a = at-end i hi li in let b = at-end j hj lj in a ∙ sym b)
+    (cases-lt j (length us)))
+    (cases-lt i (length us))
   where
     at-end : (k : ℕ) → length us ≤ k → k < length (us ++ v ∷ []) → k ≡ length us
     at-end k h l = let n = length-append us (v ∷ []) in omega arith
+
     last : (k : ℕ) → length us ≤ k → k < length (us ++ v ∷ []) → houseAt (us ++ v ∷ []) k ≡ v .house
     last k h l = ap (houseAt (us ++ v ∷ [])) (at-end k h l) ∙ house-at us v []
 
@@ -60,5 +61,5 @@ fresh us v ws d = ⊎-elim seen (λ e. e) (cases-bool (used us (v .house)))
         let l : p .0 < length us = p .1 in
         let n = length-append us (v ∷ ws) in
         let same : p .0 ≡ length us =
-            d (p .0) (length us) (omega arith) (omega arith) (house-before us (v ∷ ws) (p .0) l ∙ p .2 ∙ sym (house-at us v ws)) in
+        d (p .0) (length us) (omega arith) (omega arith) (house-before us (v ∷ ws) (p .0) l ∙ p .2 ∙ sym (house-at us v ws)) in
         absurd (omega arith)

@@ -65,8 +65,8 @@ two-numbers (x0 ∷ (x1 ∷ (x2 ∷ []))) b l = absurd (omega arith)
 two-numbers (x0 ∷ (x1 ∷ (x2 ∷ (x3 ∷ (x4 ∷ xs))))) b l = absurd (omega arith)
 two-numbers (x0 ∷ (x1 ∷ (x2 ∷ (x3 ∷ [])))) b l =
     sym
-      (ap (λ ys. ys ++ two (x2 + x3 * 256)) (two-out x0 x1 (b .0) (b .1 .0))
-      ∙ ap (λ ys. x0 ∷ (x1 ∷ ys)) (two-out x2 x3 (b .1 .1 .0) (b .1 .1 .1 .0)))
+    (ap (λ ys. ys ++ two (x2 + x3 * 256)) (two-out x0 x1 (b .0) (b .1 .0))
+    ∙ ap (λ ys. x0 ∷ (x1 ∷ ys)) (two-out x2 x3 (b .1 .1 .0) (b .1 .1 .1 .0)))
 
 -- a body of two bytes is one number
 pub one-number : (body : List ℕ) → Bytes body → length body ≡ 2 → (body ≡ two (number2 body 0)) × (number2 body 0 < 65536)
@@ -91,11 +91,11 @@ byte-at xs k b l = all-getD (λ x. x < 256) xs k 0 l b
 word-at : (xs : List ℕ) (k : ℕ) → Bytes xs → k + 1 < length xs → (drop k xs ≡ two (number2 xs k) ++ drop (k + 1 + 1) xs) × (number2 xs k < 65536)
 word-at xs k b l =
     let h0 : getD xs k 0 < 256 = byte-at xs k b (omega arith) in
-    let h1 : getD xs (k + 1) 0 < 256 = byte-at xs (k + 1) b l in
-    ( drop-more xs k 0 (omega arith)
-      ∙ ap (λ ys. getD xs k 0 ∷ ys) (drop-more xs (k + 1) 0 l)
-      ∙ ap (λ ys. ys ++ drop (k + 1 + 1) xs) (sym (two-out (getD xs k 0) (getD xs (k + 1) 0) h0 h1))
-    , omega arith
+    let h1 : getD xs (k + 1) 0 < 256 = byte-at xs (k + 1) b l in (
+      drop-more xs k 0 (omega arith)
+          ∙ ap (λ ys. getD xs k 0 ∷ ys) (drop-more xs (k + 1) 0 l)
+          ∙ ap (λ ys. ys ++ drop (k + 1 + 1) xs) (sym (two-out (getD xs k 0) (getD xs (k + 1) 0) h0 h1)),
+      omega arith,
     )
 
 long-at : (xs : List ℕ) (k : ℕ) → Bytes xs → k + 2 + 1 < length xs → (drop k xs ≡ four (number4 xs k) ++ drop (k + 2 + 1 + 1) xs) × (number4 xs k < 2 ^ 32)
@@ -104,14 +104,14 @@ long-at xs k b l =
     let h1 : getD xs (k + 1) 0 < 256 = byte-at xs (k + 1) b (omega arith) in
     let h2 : getD xs (k + 2) 0 < 256 = byte-at xs (k + 2) b (omega arith) in
     let h3 : getD xs (k + 2 + 1) 0 < 256 = byte-at xs (k + 2 + 1) b l in
-    let next : k + 1 + 1 ≡ k + 2 = omega arith in
-    ( drop-more xs k 0 (omega arith)
-      ∙ ap (λ ys. getD xs k 0 ∷ ys) (drop-more xs (k + 1) 0 (omega arith))
-      ∙ ap (λ n. getD xs k 0 ∷ (getD xs (k + 1) 0 ∷ drop n xs)) next
-      ∙ ap (λ ys. getD xs k 0 ∷ (getD xs (k + 1) 0 ∷ ys)) (drop-more xs (k + 2) 0 (omega arith))
-      ∙ ap (λ ys. getD xs k 0 ∷ (getD xs (k + 1) 0 ∷ (getD xs (k + 2) 0 ∷ ys))) (drop-more xs (k + 2 + 1) 0 l)
-      ∙ ap (λ ys. ys ++ drop (k + 2 + 1 + 1) xs) (sym (four-out (getD xs k 0) (getD xs (k + 1) 0) (getD xs (k + 2) 0) (getD xs (k + 2 + 1) 0) h0 h1 h2 h3))
-    , omega arith
+    let next : k + 1 + 1 ≡ k + 2 = omega arith in (
+      drop-more xs k 0 (omega arith)
+          ∙ ap (λ ys. getD xs k 0 ∷ ys) (drop-more xs (k + 1) 0 (omega arith))
+          ∙ ap (λ n. getD xs k 0 ∷ (getD xs (k + 1) 0 ∷ drop n xs)) next
+          ∙ ap (λ ys. getD xs k 0 ∷ (getD xs (k + 1) 0 ∷ ys)) (drop-more xs (k + 2) 0 (omega arith))
+          ∙ ap (λ ys. getD xs k 0 ∷ (getD xs (k + 1) 0 ∷ (getD xs (k + 2) 0 ∷ ys))) (drop-more xs (k + 2 + 1) 0 l)
+          ∙ ap (λ ys. ys ++ drop (k + 2 + 1 + 1) xs) (sym (four-out (getD xs k 0) (getD xs (k + 1) 0) (getD xs (k + 2) 0) (getD xs (k + 2 + 1) 0) h0 h1 h2 h3)),
+      omega arith,
     )
 
 -- a body of fourteen bytes is that of the sum which it gives
@@ -125,16 +125,16 @@ sum-again body b l =
     let bm : ofZ w16 (toZ w16 (number2 body 2)) ≡ number2 body 2 = ofZ-toZ w16 (number2 body 2) (m .1) in
     let bk : ofZ w16 (toZ w16 (number2 body 4)) ≡ number2 body 4 = ofZ-toZ w16 (number2 body 4) (k .1) in
     let bl : ofZ w32 (toZ w32 (number4 body 6)) ≡ number4 body 6 = ofZ-toZ w32 (number4 body 6) (lo .1) in
-    let bh : ofZ w32 (toZ w32 (number4 body 10)) ≡ number4 body 10 = ofZ-toZ w32 (number4 body 10) (hi .1) in
-    ( drop-more body 0 0 (omega arith)
-      ∙ ap (λ ys. getD body 0 0 ∷ ys) (drop-more body 1 0 (omega arith))
-      ∙ ap (λ ys. getD body 0 0 ∷ (getD body 1 0 ∷ ys)) (m .0 ∙ ap (λ n. two n ++ drop 4 body) (sym bm))
-      ∙ ap (λ ys. getD body 0 0 ∷ (getD body 1 0 ∷ (two (ofZ w16 (toZ w16 (number2 body 2))) ++ ys))) (k .0 ∙ ap (λ n. two n ++ drop 6 body) (sym bk))
-      ∙ ap (λ ys. getD body 0 0 ∷ (getD body 1 0 ∷ (two (ofZ w16 (toZ w16 (number2 body 2))) ++ (two (ofZ w16 (toZ w16 (number2 body 4))) ++ ys)))) (lo .0 ∙ ap (λ n. four n ++ drop 10 body) (sym bl))
-      ∙ ap (λ ys. getD body 0 0 ∷ (getD body 1 0 ∷ (two (ofZ w16 (toZ w16 (number2 body 2))) ++ (two (ofZ w16 (toZ w16 (number2 body 4))) ++ (four (ofZ w32 (toZ w32 (number4 body 6))) ++ ys)))))
-        (hi .0 ∙ ap (λ n. four n ++ drop 14 body) (sym bh) ∙ ap (λ ys. four (ofZ w32 (toZ w32 (number4 body 10))) ++ ys) none ∙ append-nil (four (ofZ w32 (toZ w32 (number4 body 10)))))
-    , lo .1
-    , hi .1
+    let bh : ofZ w32 (toZ w32 (number4 body 10)) ≡ number4 body 10 = ofZ-toZ w32 (number4 body 10) (hi .1) in (
+      drop-more body 0 0 (omega arith)
+          ∙ ap (λ ys. getD body 0 0 ∷ ys) (drop-more body 1 0 (omega arith))
+          ∙ ap (λ ys. getD body 0 0 ∷ (getD body 1 0 ∷ ys)) (m .0 ∙ ap (λ n. two n ++ drop 4 body) (sym bm))
+          ∙ ap (λ ys. getD body 0 0 ∷ (getD body 1 0 ∷ (two (ofZ w16 (toZ w16 (number2 body 2))) ++ ys))) (k .0 ∙ ap (λ n. two n ++ drop 6 body) (sym bk))
+          ∙ ap (λ ys. getD body 0 0 ∷ (getD body 1 0 ∷ (two (ofZ w16 (toZ w16 (number2 body 2))) ++ (two (ofZ w16 (toZ w16 (number2 body 4))) ++ ys)))) (lo .0 ∙ ap (λ n. four n ++ drop 10 body) (sym bl))
+          ∙ ap (λ ys. getD body 0 0 ∷ (getD body 1 0 ∷ (two (ofZ w16 (toZ w16 (number2 body 2))) ++ (two (ofZ w16 (toZ w16 (number2 body 4))) ++ (four (ofZ w32 (toZ w32 (number4 body 6))) ++ ys)))))
+          (hi .0 ∙ ap (λ n. four n ++ drop 14 body) (sym bh) ∙ ap (λ ys. four (ofZ w32 (toZ w32 (number4 body 10))) ++ ys) none ∙ append-nil (four (ofZ w32 (toZ w32 (number4 body 10))))),
+      lo .1,
+      hi .1,
     )
 
 -- the tests of a sum say that it is valid
@@ -149,16 +149,16 @@ sum-valid n body e g fl fh =
     let q = and-parts (betweenZ (negsuc 999) (pos 1000) k) (leZ lo hi) (p .1) in
     let pm = and-parts (leZ (negsuc 999) m) (leZ m (pos 1000)) (p .0) in
     let pk = and-parts (leZ (negsuc 999) k) (leZ k (pos 1000)) (q .0) in
-    record
-      { ends = ends-valid n (getD body 0 0) (getD body 1 0) e
-      ; m-low = leZ-is (negsuc 999) m (pm .0)
-      ; m-high = leZ-is m (pos 1000) (pm .1)
-      ; k-low = leZ-is (negsuc 999) k (pk .0)
-      ; k-high = leZ-is k (pos 1000) (pk .1)
-      ; lo-fits = sfits-toZ (record { fits = fl })
-      ; hi-fits = sfits-toZ (record { fits = fh })
-      ; ordered = leZ-is lo hi (q .1)
-      }
+    record {
+      ends = ends-valid n (getD body 0 0) (getD body 1 0) e;
+      m-low = leZ-is (negsuc 999) m (pm .0);
+      m-high = leZ-is m (pos 1000) (pm .1);
+      k-low = leZ-is (negsuc 999) k (pk .0);
+      k-high = leZ-is k (pos 1000) (pk .1);
+      lo-fits = sfits-toZ (record { fits = fl });
+      hi-fits = sfits-toZ (record { fits = fh });
+      ordered = leZ-is lo hi (q .1);
+    }
 
 -- a factor from -1,000 to 1,000 fits two bytes
 factor-fits : (z : ℤ) → negsuc 999 ≤ℤ z → z ≤ℤ pos 1000 → SFits w16 z
@@ -177,7 +177,7 @@ sum-there n a b m k lo hi v =
     let eh : toZ w32 (number4 (four (ofZ w32 hi)) 0) ≡ hi = ap (toZ w32) (four-back (ofZ w32 hi) [] (fits-ofZ (v .hi-fits) .fits)) ∙ toZ-ofZ w32 hi (v .hi-fits) in
     let whole : (w x y z : ℤ) → w ≡ m → x ≡ k → y ≡ lo → z ≡ hi → (sum a b w x y z ≡ sum a b m k lo hi) × (sumGood w x y z ≡ sumGood m k lo hi) = λ w x y z p q r s. (cc, cc) in
     let good : sumGood m k lo hi ≡ true =
-        and-from _ _ (and-from _ _ (is-leZ (negsuc 999) m (v .m-low)) (is-leZ m (pos 1000) (v .m-high)))
-        (and-from _ _ (and-from _ _ (is-leZ (negsuc 999) k (v .k-low)) (is-leZ k (pos 1000) (v .k-high))) (is-leZ lo hi (v .ordered))) in
+    and-from _ _ (and-from _ _ (is-leZ (negsuc 999) m (v .m-low)) (is-leZ m (pos 1000) (v .m-high)))
+    (and-from _ _ (and-from _ _ (is-leZ (negsuc 999) k (v .k-low)) (is-leZ k (pos 1000) (v .k-high))) (is-leZ lo hi (v .ordered))) in
     let both = whole _ _ _ _ em ek el eh in
     (both .0, both .1 ∙ good)

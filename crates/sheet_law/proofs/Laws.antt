@@ -4,6 +4,7 @@ use mathlib.Core.Bool.{Bool, true, false, cond}
 use mathlib.Core.List.{List, [], _∷_, _++_, map}
 use Prim.Native.Nat.{ℕ, zero, suc, _+_, _-_, _*_, _/_, _≤_, _<_}
 use native.Mathlib.Omega.{arith}
+use native.Mathlib.Nat.{zero-add}
 use lib.Dec.{ltb, eqb}
 use lib.ListN.{length, take, drop, getD}
 use Rattle.std.specs.Vec.{listOf}
@@ -45,9 +46,9 @@ split-back (r ∷ rs) (suc most) l short =
     let xs : List ℕ = framed r ++ joined framed rs in
     let f = framed-first r (joined framed rs) (short .0) in
     let first : firstRecord xs ≡ r =
-        ap (λ k. record { kind = k; body = drop 4 (take (number2 xs 0) xs) }) (f .1)
-        ∙ ap (λ m. record { kind = r .kind; body = drop 4 (take m xs) }) (f .0)
-        ∙ ap (λ b. record { kind = r .kind; body = b }) (f .2) in
+    ap (λ k. record { kind = k; body = drop 4 (take (number2 xs 0) xs) }) (f .1)
+    ∙ ap (λ m. record { kind = r .kind; body = drop 4 (take m xs) }) (f .0)
+    ∙ ap (λ b. record { kind = r .kind; body = b }) (f .2) in
     let rest : drop (number2 xs 0) xs ≡ joined framed rs = ap (λ m. drop m xs) (f .0) ∙ f .3 in
     ap (λ q. q ∷ split most (drop (number2 xs 0) xs)) first
     ∙ ap (λ ys. r ∷ split most ys) rest
@@ -65,9 +66,6 @@ short-all (r ∷ rs) kinds l =
     let k = framed-length r (joined framed rs) in
     (record { kind-low = kinds .0; length-low = omega arith }, short-all rs (kinds .1) (omega arith))
 
-low-kind : Raw → Type 0
-low-kind r = r .kind < 65536
-
 constraint-kind : (c : Constraint) → constraintRecord c .kind < 65536
 constraint-kind (sum a b m k lo hi) = omega arith
 constraint-kind (table a b rows) = omega arith
@@ -81,13 +79,13 @@ each P f [] = tt
 each P f (x ∷ xs) = (f x, each P f xs)
 
 kinds-low : (s : Sheet) → All (λ r. r .kind < 65536) (recordsOf s)
-kinds-low s =
-    ( omega arith
-    , all-append (λ r. r .kind < 65536) (map variableRecord (s .variables)) _ (all-map (λ r. r .kind < 65536) variableRecord (s .variables) (each _ (λ v. omega arith) (s .variables)))
+kinds-low s = (
+  omega arith,
+  all-append (λ r. r .kind < 65536) (map variableRecord (s .variables)) _ (all-map (λ r. r .kind < 65536) variableRecord (s .variables) (each _ (λ v. omega arith) (s .variables)))
       (all-append (λ r. r .kind < 65536) (map constraintRecord (s .constraints)) _ (all-map (λ r. r .kind < 65536) constraintRecord (s .constraints) (each _ constraint-kind (s .constraints)))
       (all-append (λ r. r .kind < 65536) (map moveRecord (s .moves)) _ (all-map (λ r. r .kind < 65536) moveRecord (s .moves) (each _ move-kind (s .moves)))
-      (omega arith, tt)))
-    )
+      (omega arith, tt))),
+)
 
 pub sheet-short : (s : Sheet) → Valid s → All Short (recordsOf s)
 sheet-short s v = short-all (recordsOf s) (kinds-low s) (v .short)
@@ -160,20 +158,20 @@ parts f s vs cs ms h e ev ec em =
 pub sheet-back : (s : Sheet) → Valid s → sheetOf (recordsOf s) ≡ s
 sheet-back s v =
     let ev = parts asVariable s (s .variables) [] [] refl refl
-          (gathered-all asVariable variableRecord (s .variables) (all-weaker (ValidVariable (length (s .variables))) (λ x. asVariable (variableRecord x) ≡ Some x) (λ x. variable-back (length (s .variables)) x (v .few-variables)) (s .variables) (v .variables-valid)))
-          (gathered-none asVariable constraintRecord (s .constraints) no-variable-c)
-          (gathered-none asVariable moveRecord (s .moves) no-variable-m)
-          ∙ append-nil (s .variables) in
+    (gathered-all asVariable variableRecord (s .variables) (all-weaker (ValidVariable (length (s .variables))) (λ x. asVariable (variableRecord x) ≡ Some x) (λ x. variable-back (length (s .variables)) x (v .few-variables)) (s .variables) (v .variables-valid)))
+    (gathered-none asVariable constraintRecord (s .constraints) no-variable-c)
+    (gathered-none asVariable moveRecord (s .moves) no-variable-m)
+    ∙ append-nil (s .variables) in
     let ec = parts asConstraint s [] (s .constraints) [] refl refl
-          (gathered-none asConstraint variableRecord (s .variables) (λ x. refl))
-          (gathered-all asConstraint constraintRecord (s .constraints) (all-weaker (ValidConstraint (s .variables)) (λ x. asConstraint (constraintRecord x) ≡ Some x) (λ x. constraint-back (s .variables) x (v .variables-valid)) (s .constraints) (v .constraints-valid)))
-          (gathered-none asConstraint moveRecord (s .moves) no-constraint-m)
-          ∙ append-nil (s .constraints) in
+    (gathered-none asConstraint variableRecord (s .variables) (λ x. refl))
+    (gathered-all asConstraint constraintRecord (s .constraints) (all-weaker (ValidConstraint (s .variables)) (λ x. asConstraint (constraintRecord x) ≡ Some x) (λ x. constraint-back (s .variables) x (v .variables-valid)) (s .constraints) (v .constraints-valid)))
+    (gathered-none asConstraint moveRecord (s .moves) no-constraint-m)
+    ∙ append-nil (s .constraints) in
     let em = parts asMove s [] [] (s .moves) refl refl
-          (gathered-none asMove variableRecord (s .variables) (λ x. refl))
-          (gathered-none asMove constraintRecord (s .constraints) no-move-c)
-          (gathered-all asMove moveRecord (s .moves) (all-weaker ValidMove (λ x. asMove (moveRecord x) ≡ Some x) move-back (s .moves) (v .moves-valid)))
-          ∙ append-nil (s .moves) in
+    (gathered-none asMove variableRecord (s .variables) (λ x. refl))
+    (gathered-none asMove constraintRecord (s .constraints) no-move-c)
+    (gathered-all asMove moveRecord (s .moves) (all-weaker ValidMove (λ x. asMove (moveRecord x) ≡ Some x) move-back (s .moves) (v .moves-valid)))
+    ∙ append-nil (s .moves) in
     ap (λ x. record { variables = x; constraints = gathered asConstraint (recordsOf s); moves = gathered asMove (recordsOf s) }) ev
     ∙ ap (λ x. record { variables = s .variables; constraints = x; moves = gathered asMove (recordsOf s) }) ec
     ∙ ap (λ x. record { variables = s .variables; constraints = s .constraints; moves = x }) em
@@ -183,3 +181,90 @@ pub decode-encode : (s : Sheet) → Valid s → decode (encode s) ≡ s
 decode-encode s v =
     let few = records-few (recordsOf s) in
     ap sheetOf (split-back (recordsOf s) (length (encode s)) (omega arith) (sheet-short s v)) ∙ sheet-back s v
+
+-- records that run to the end are those of a valid sheet
+pub record Sheeted (rs : List Raw) (k : Tally) : Type 0 where
+  pub sheet : Sheet
+  pub valid : length (joined framed rs) ≤ 65535 → Valid sheet
+  pub same : rs ≡ recordsOf sheet
+  pub sums-up : summary k ≡ summaryOf sheet
+
+pub sheeted : (rs : List Raw) (k : Tally) → AllBytes rs → Runs nothingYet 0 rs k → Sheeted rs k
+sheeted rs k b run =
+    let h : Headed rs k = headed-back rs k b run in
+    let n : ℕ = h .n in
+    let f : Front n n [] 8 (h .rest) k = front-back n n [] 8 (h .rest) k (omega arith) (h .runs) (h .bytes) tt (λ i j l. absurd (omega arith)) in
+    let some : 1 ≤ h .n = h .some in
+    let few : h .n ≤ 32 = h .few in
+    let vs : List Variable = f .variables in
+    let many : length (f .variables) ≡ h .n = f .many in
+    let w : Whole (tally n vs 0 0 (8 + 8 * n)) = record { some = some; all = many; few = omega arith } in
+    let t : Tail (tally n vs 0 0 (8 + 8 * n)) (8 + 8 * n) (f .rest) k = tail-back (f .rest) (tally n vs 0 0 (8 + 8 * n)) k (8 + 8 * n) w (f .bytes) (f .runs) in
+    let s : Sheet = record { variables = vs; constraints = t .constraints; moves = t .moves } in
+    let same : rs ≡ recordsOf s =
+    h .same
+    ∙ ap (λ xs. headingRecord n ∷ xs) (f .same ∙ ap (λ xs. map variableRecord vs ++ xs) (t .same))
+    ∙ ap (λ m. headingRecord m ∷ (map variableRecord vs ++ (map constraintRecord (t .constraints) ++ (map moveRecord (t .moves) ++ (endRecord ∷ []))))) (sym many) in
+    record {
+      sheet = s;
+      valid = λ short.
+          record {
+            some-variables = subst (λ m. 1 ≤ m) (sym many) some;
+            few-variables = subst (λ m. m ≤ 32) (sym many) few;
+            variables-valid = subst (λ m. All (ValidVariable m) vs) (sym many) (f .valid);
+            houses-differ = f .differ;
+            few-constraints = (let c = t .few in omega arith);
+            constraints-valid = t .constraints-valid;
+            moves-valid = t .moves-valid;
+            short = subst (λ xs. length (joined framed xs) ≤ 65535) same short;
+          };
+      same = same;
+      sums-up = summed k s (t .n-is ∙ sym many) (t .constraints-are ∙ zero-add (length (t .constraints))) (t .moves-are ∙ zero-add (length (t .moves))) (t .reached-is refl refl ∙ ap (λ m. 8 + 8 * m + length (joined framed (map constraintRecord (t .constraints)))) (sym many));
+    }
+  where
+    summed : (g : Tally) (s : Sheet) → g .n ≡ length (s .variables) → g .constraints ≡ length (s .constraints) → g .moves ≡ length (s .moves)
+        → g .reached ≡ 8 + 8 * length (s .variables) + length (joined framed (map constraintRecord (s .constraints))) → summary g ≡ summaryOf s
+    summed g s en ec em er = cc
+
+-- accepted bytes encode a valid sheet, and one only
+accepted-law : (xs : List ℕ) (z : Summary) → Bytes xs → length xs ≤ 65535 → walked (suc (length xs)) xs 0 0 nothingYet ≡ Ok z → Encodes xs z
+accepted-law xs z b short e =
+    let a : Accepted xs nothingYet 0 z = runs (suc (length xs)) xs 0 0 nothingYet z b e in
+    let t : Sheeted (a .records) (a .end) = sheeted (a .records) (a .end) (a .bytes) (a .runs) in
+    let s : Sheet = t .sheet in
+    let v : Valid s = t .valid (subst (λ ys. length ys ≤ 65535) (a .same) short) in
+    let bytes : encode s ≡ xs = ap (joined framed) (sym (t .same)) ∙ sym (a .same) in
+    let back : decode xs ≡ s = ap decode (sym bytes) ∙ decode-encode s v in
+    record {
+      valid = subst Valid (sym back) v;
+      same = ap encode back ∙ bytes;
+      alone = λ u w f. sym (decode-encode u w) ∙ ap decode f;
+      sums-up = a .sums-up ∙ t .sums-up ∙ ap summaryOf (sym back);
+    }
+
+-- refused bytes encode none
+refused-law : (xs : List ℕ) (f : SheetFault) → walked (suc (length xs)) xs 0 0 nothingYet ≡ Err f → (s : Sheet) → Valid s → encode s ≡ xs → ⊥
+refused-law xs f e s v same =
+    let few = records-few (recordsOf s) in
+    let long : length (encode s) ≡ length xs = ap length same in
+    let extra : ℕ = suc (length xs) - length (recordsOf s) in
+    let fuel : length (recordsOf s) + (suc (length xs) - length (recordsOf s)) ≡ suc (length xs) = omega arith in
+    let ok : walked (suc (length xs)) xs 0 0 nothingYet ≡ Ok (summary (lastTally s)) =
+    ap (λ ys. walked (suc (length xs)) ys 0 0 nothingYet) (sym same)
+    ∙ ap (λ m. walked m (encode s) 0 0 nothingYet) (sym fuel)
+    ∙ accepted (recordsOf s) nothingYet (lastTally s) 0 0 extra (sheet-runs s v) (sheet-short s v) in
+    clash (summary (lastTally s)) f (sym ok ∙ e)
+  where
+    clash : (z : Summary) (g : SheetFault) → _≡_ {A = Verdict} (Ok z) (Err g) → ⊥
+    clash z g h = let y : _≡_ {A = ℕ} 0 1 = cc in omega arith
+
+pub law : (xs : List ℕ) → Bytes xs → Law xs (verdict xs)
+law xs b = sized (ltb 65535 (length xs)) refl
+  where
+    by-walk : (r : Verdict) → length xs ≤ 65535 → walked (suc (length xs)) xs 0 0 nothingYet ≡ r → Law xs r
+    by-walk (Ok z) short e = accepted-law xs z b short e
+    by-walk (Err f) short e = refused-law xs f e
+
+    sized : (t : Bool) → ltb 65535 (length xs) ≡ t → Law xs (cond t (formatFault TooLong 65535 0) (walked (suc (length xs)) xs 0 0 nothingYet))
+    sized true e = λ s v same. let l : 65535 < length xs = ltb-true 65535 (length xs) e in let k = v .short in let m = ap length same in omega arith
+    sized false e = by-walk (walked (suc (length xs)) xs 0 0 nothingYet) (ltb-false 65535 (length xs) e) refl

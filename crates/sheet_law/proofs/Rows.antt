@@ -55,13 +55,13 @@ rows-back (suc count) size (x0 ∷ (x1 ∷ (x2 ∷ (x3 ∷ (x4 ∷ (x5 ∷ (x6 �
     let p = and-parts (ltb (number8 (x0 ∷ (x1 ∷ (x2 ∷ (x3 ∷ (x4 ∷ (x5 ∷ (x6 ∷ (x7 ∷ xs)))))))) 0) (2 ^ size)) (rowsGood count size xs) g in
     let long : length xs ≡ 8 * count = omega arith in
     let r : RowsBack count size xs = rows-back count size xs (b .1 .1 .1 .1 .1 .1 .1 .1) long (p .1) in
-    record
-      { many = ap suc (r .many)
-      ; same =
+    record {
+      many = ap suc (r .many);
+      same =
           ap (λ ys. x0 ∷ (x1 ∷ (x2 ∷ (x3 ∷ (x4 ∷ (x5 ∷ (x6 ∷ (x7 ∷ ys)))))))) (r .same)
-          ∙ sym (ap (λ ys. ys ++ joined eight (rowsIn count xs)) (eight-again x0 x1 x2 x3 x4 x5 x6 x7 xs b))
-      ; low = (ltb-true _ _ (p .0), r .low)
-      }
+          ∙ sym (ap (λ ys. ys ++ joined eight (rowsIn count xs)) (eight-again x0 x1 x2 x3 x4 x5 x6 x7 xs b));
+      low = (ltb-true _ _ (p .0), r .low);
+    }
 
 -- what is written of rows is good, and reads back as the rows
 pub rows-there : (size : ℕ) (rows rest : List ℕ) → size ≤ 64 → All (λ row. row < 2 ^ size) rows
@@ -73,8 +73,8 @@ rows-there size [] rest s low = (refl, refl, refl)
 rows-there size (row ∷ rows) rest s low =
     let r = rows-there size rows rest s (low .1) in
     let fits : row < 2 ^ 64 = le-trans (low .0) (pow-mono s) in
-    let back : number8 ((eight row ++ joined eight rows) ++ rest) 0 ≡ row = eight-back row (joined eight rows ++ rest) fits in
-    ( and-from _ _ (lt-ltb _ _ (subst (λ n. n < 2 ^ size) (sym back) (low .0))) (r .0)
-    , ap (λ n. n ∷ rowsIn (length rows) (joined eight rows ++ rest)) back ∙ ap (λ ys. row ∷ ys) (r .1)
-    , (let k = r .2 in omega arith)
+    let back : number8 ((eight row ++ joined eight rows) ++ rest) 0 ≡ row = eight-back row (joined eight rows ++ rest) fits in (
+      and-from _ _ (lt-ltb _ _ (subst (λ n. n < 2 ^ size) (sym back) (low .0))) (r .0),
+      ap (λ n. n ∷ rowsIn (length rows) (joined eight rows ++ rest)) back ∙ ap (λ ys. row ∷ ys) (r .1),
+      (let k = r .2 in omega arith),
     )

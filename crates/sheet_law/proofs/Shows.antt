@@ -48,10 +48,10 @@ kind-is kind body place s e1 =
     ⊎-elim (λ h. subst (KindIs kind body) (h .1) (eqb-true kind 5 (h .0), refl)) (λ e6.
     ⊎-elim (λ h. subst (KindIs kind body) (h .1) (eqb-true kind 6 (h .0), refl)) (λ e7.
     ⊎-elim (λ h. subst (KindIs kind body) (h .1) (eqb-true kind 7 (h .0), refl)) (λ e8. absurd (never s e8))
-      (pick (eqb kind 7) (showsEnd body) _ s e7))
-      (pick (eqb kind 6) (showsRetract body) _ s e6))
-      (pick (eqb kind 5) (showsAdd body) _ s e5))
-      (pick (eqb kind 4) (shownTable body place) _ s e4))
-      (pick (eqb kind 3) (showsSum body) _ s e3))
-      (pick (eqb kind 2) (showsVariable body) _ s e2))
-      (pick (eqb kind 1) (showsHeading body) _ s e1)
+    (pick (eqb kind 7) (showsEnd body) _ s e7))
+    (pick (eqb kind 6) (showsRetract body) _ s e6))
+    (pick (eqb kind 5) (showsAdd body) _ s e5))
+    (pick (eqb kind 4) (shownTable body place) _ s e4))
+    (pick (eqb kind 3) (showsSum body) _ s e3))
+    (pick (eqb kind 2) (showsVariable body) _ s e2))
+    (pick (eqb kind 1) (showsHeading body) _ s e1)

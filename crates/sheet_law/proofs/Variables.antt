@@ -78,38 +78,38 @@ module _ (n : ℕ) (us : List Variable) (place : ℕ) (r : Raw) (rs : List Raw) 
       let one : ValidVariable n v = record { some-values = size .0; few-values = size .1; house-low = ltb-true _ _ (house .0) } in
       let new : used us (v .house) ≡ false = not-true _ (house .1) in
       let run′ : Runs (tally n (us ++ (v ∷ [])) 0 0 (place + 8)) (place + 8) rs k =
-          subst (λ p. Runs (tally n (us ++ (v ∷ [])) 0 0 p) p rs k) after (subst (λ t. Runs t (past place r) rs k) (q .result) run) in
+      subst (λ p. Runs (tally n (us ++ (v ∷ [])) 0 0 p) p rs k) after (subst (λ t. Runs t (past place r) rs k) (q .result) run) in
       let f : Front n m (us ++ (v ∷ [])) (place + 8) rs k = go (all-push (ValidVariable n) us v valid one) (differ-push us v differ new) run′ in
       let regroup : (us ++ (v ∷ [])) ++ f .variables ≡ us ++ (v ∷ f .variables) = append-assoc us (v ∷ []) (f .variables) in
       let far : place + 8 + 8 * m ≡ place + 8 * suc m = omega arith in
-      record
-        { variables = v ∷ f .variables
-        ; rest = f .rest
-        ; same =
+      record {
+        variables = v ∷ f .variables;
+        rest = f .rest;
+        same =
             ap (λ x. x ∷ rs) (same-raw r 2 (two (v .size) ++ two (v .house)) (kind .0) (here ∙ two-numbers body (subst Bytes here b) four))
-            ∙ ap (λ xs. variableRecord v ∷ xs) (f .same)
-        ; many = ap suc (f .many)
-        ; valid = subst (All (ValidVariable n)) regroup (f .valid)
-        ; differ = subst HousesDiffer regroup (f .differ)
-        ; runs = subst (λ p. Runs (tally n (us ++ (v ∷ f .variables)) 0 0 p) p (f .rest) k) far (subst (λ ws. Runs (tally n ws 0 0 (place + 8 + 8 * m)) (place + 8 + 8 * m) (f .rest) k) regroup (f .runs))
-        ; bytes = f .bytes
-        }
+            ∙ ap (λ xs. variableRecord v ∷ xs) (f .same);
+        many = ap suc (f .many);
+        valid = subst (All (ValidVariable n)) regroup (f .valid);
+        differ = subst HousesDiffer regroup (f .differ);
+        runs = subst (λ p. Runs (tally n (us ++ (v ∷ f .variables)) 0 0 p) p (f .rest) k) far (subst (λ ws. Runs (tally n ws 0 0 (place + 8 + 8 * m)) (place + 8 + 8 * m) (f .rest) k) regroup (f .runs));
+        bytes = f .bytes;
+      }
 
 pub front-back : (m n : ℕ) (us : List Variable) (place : ℕ) (rs : List Raw) (k : Tally) → length us + m ≡ n → Runs (tally n us 0 0 place) place rs k → AllBytes rs
     → All (ValidVariable n) us → HousesDiffer us → Front n m us place rs k
 front-back zero n us place rs k l run b valid differ =
-    record
-      { variables = []
-      ; rest = rs
-      ; same = refl
-      ; many = refl
-      ; valid = subst (All (ValidVariable n)) (sym (append-nil us)) valid
-      ; differ = subst HousesDiffer (sym (append-nil us)) differ
-      ; runs =
+    record {
+      variables = [];
+      rest = rs;
+      same = refl;
+      many = refl;
+      valid = subst (All (ValidVariable n)) (sym (append-nil us)) valid;
+      differ = subst HousesDiffer (sym (append-nil us)) differ;
+      runs =
           let far : place ≡ place + 8 * 0 = omega arith in
-          subst (λ p. Runs (tally n (us ++ []) 0 0 p) p rs k) far (subst (λ ws. Runs (tally n ws 0 0 place) place rs k) (sym (append-nil us)) run)
-      ; bytes = b
-      }
+          subst (λ p. Runs (tally n (us ++ []) 0 0 p) p rs k) far (subst (λ ws. Runs (tally n ws 0 0 place) place rs k) (sym (append-nil us)) run);
+      bytes = b;
+    }
 front-back (suc m) n us place [] k l run b valid differ = absurd run
 front-back (suc m) n us place (r ∷ rs) k l run b valid differ =
     let g : Tally = tally n us 0 0 place in
@@ -117,13 +117,13 @@ front-back (suc m) n us place (r ∷ rs) k l run b valid differ =
     let kind = kind-is (r .kind) (r .body) place s (run .1) in
     let due : length us < n = omega arith in
     ⊎-elim
-      (λ (d : Ended g place r s rs k). absurd (no-end g s (not-complete g due) (end-held g s (past place r) (d .ended))))
-      (λ (o : (h : Tally) × (step g s (past place r) ≡ goes h) × Runs h (past place r) rs k).
-        let v = only-variable g (o .0) s (past place r) due (goes-held g s (past place r) (o .0) (o .1)) in
-        front-more n us place r rs k m (v .0) (o .0) (b .0) (subst (KindIs (r .kind) (r .body)) (v .1) kind) (v .2) valid differ
-          (λ valid′ differ′ run′. front-back m n (us ++ (variableOf (v .0) ∷ [])) (place + 8) rs k (let a = length-append us (variableOf (v .0) ∷ []) in omega arith) run′ (b .1) valid′ differ′)
-          (o .2))
-      (run .2)
+    (λ (d : Ended g place r s rs k). absurd (no-end g s (not-complete g due) (end-held g s (past place r) (d .ended))))
+    (λ (o : (h : Tally) × (step g s (past place r) ≡ goes h) × Runs h (past place r) rs k).
+    let v = only-variable g (o .0) s (past place r) due (goes-held g s (past place r) (o .0) (o .1)) in
+    front-more n us place r rs k m (v .0) (o .0) (b .0) (subst (KindIs (r .kind) (r .body)) (v .1) kind) (v .2) valid differ
+    (λ valid′ differ′ run′. front-back m n (us ++ (variableOf (v .0) ∷ [])) (place + 8) rs k (let a = length-append us (variableOf (v .0) ∷ []) in omega arith) run′ (b .1) valid′ differ′)
+    (o .2))
+    (run .2)
 
 -- the heading before the rest
 pub record Headed (rs : List Raw) (k : Tally) : Type 0 where
@@ -151,11 +151,11 @@ headed-back (r ∷ rs) k b run =
     let s : Shown = run .0 in
     let kind = kind-is (r .kind) (r .body) 0 s (run .1) in
     ⊎-elim
-      (λ (d : Ended nothingYet 0 r s rs k). absurd (no-end nothingYet s (λ (z : _≡_ {A = Bool} false true). let y : _≡_ {A = ℕ} 0 1 = cc in omega arith) (end-held nothingYet s (past 0 r) (d .ended))))
-      (λ (o : (h : Tally) × (step nothingYet s (past 0 r) ≡ goes h) × Runs h (past 0 r) rs k).
-        let v = only-heading (o .0) s (past 0 r) (goes-held nothingYet s (past 0 r) (o .0) (o .1)) in
-        from-heading (v .0) (o .0) (subst (KindIs (r .kind) (r .body)) (v .1) kind) (v .2) (o .2))
-      (run .2)
+    (λ (d : Ended nothingYet 0 r s rs k). absurd (no-end nothingYet s (λ (z : _≡_ {A = Bool} false true). let y : _≡_ {A = ℕ} 0 1 = cc in omega arith) (end-held nothingYet s (past 0 r) (d .ended))))
+    (λ (o : (h : Tally) × (step nothingYet s (past 0 r) ≡ goes h) × Runs h (past 0 r) rs k).
+    let v = only-heading (o .0) s (past 0 r) (goes-held nothingYet s (past 0 r) (o .0) (o .1)) in
+    from-heading (v .0) (o .0) (subst (KindIs (r .kind) (r .body)) (v .1) kind) (v .2) (o .2))
+    (run .2)
   where
     from-heading : (body : List ℕ) (h : Tally) → KindIs (r .kind) (r .body) (showsHeading body) → HeadingHeld nothingYet body (past 0 r) h → Runs h (past 0 r) rs k → Headed (r ∷ rs) k
     from-heading body h kind q run′ =
@@ -164,15 +164,15 @@ headed-back (r ∷ rs) k b run =
         let after : past 0 r ≡ 8 = (let l = ap length here in omega arith) in
         let good = and-parts (eqb (number2 body 0) 1) (between 1 32 (number2 body 2)) (q .good) in
         let size = between-is 1 32 (number2 body 2) (good .1) in
-        record
-          { n = number2 body 2
-          ; rest = rs
-          ; some = size .0
-          ; few = size .1
-          ; same =
+        record {
+          n = number2 body 2;
+          rest = rs;
+          some = size .0;
+          few = size .1;
+          same =
               ap (λ x. x ∷ rs)
-                (same-raw r 1 (two 1 ++ two (number2 body 2)) (kind .0)
-                  (here ∙ two-numbers body (subst Bytes here (b .0)) four ∙ ap (λ m. two m ++ two (number2 body 2)) (eqb-true (number2 body 0) 1 (good .0))))
-          ; runs = subst (λ p. Runs (tally (number2 body 2) [] 0 0 p) p rs k) after (subst (λ t. Runs t (past 0 r) rs k) (q .result) run′)
-          ; bytes = b .1
-          }
+              (same-raw r 1 (two 1 ++ two (number2 body 2)) (kind .0)
+              (here ∙ two-numbers body (subst Bytes here (b .0)) four ∙ ap (λ m. two m ++ two (number2 body 2)) (eqb-true (number2 body 0) 1 (good .0))));
+          runs = subst (λ p. Runs (tally (number2 body 2) [] 0 0 p) p rs k) after (subst (λ t. Runs t (past 0 r) rs k) (q .result) run′);
+          bytes = b .1;
+        }

@@ -73,10 +73,10 @@ accepted (r ∷ rs) g k place n extra run short =
     ap (λ m. walked m (joined framed (r ∷ rs)) place n g) fuel
     ∙ first-step r rs g place n (length rs + extra) s (short .0) (run .1)
     ∙ ⊎-elim (ended-here g k place n (length rs + extra) r s rs)
-      (λ (f : Onward g place r s rs k).
-        ap (afterStep (walked (length rs + extra)) g place n (joined framed rs) (past place r)) (f .1)
-        ∙ accepted rs (f .0) k (past place r) (n + 1) extra (f .2) (short .1))
-      (run .2)
+    (λ (f : Onward g place r s rs k).
+    ap (afterStep (walked (length rs + extra)) g place n (joined framed rs) (past place r)) (f .1)
+    ∙ accepted rs (f .0) k (past place r) (n + 1) extra (f .2) (short .1))
+    (run .2)
 
 -- bytes as records that run to the end
 pub record Accepted (xs : List ℕ) (g : Tally) (place : ℕ) (z : Summary) : Type 0 where
@@ -100,32 +100,32 @@ same-summary y z e = cc
 module _ (xs rest : List ℕ) (g : Tally) (place n : ℕ) (z : Summary) (s : Shown) (f : Framed xs place s rest) where
   -- the record was the end
   at-end : step g s (past place (f .raw)) ≡ ends → (b : Bool) → eqb (length rest) 0 ≡ b
-    → cond b (Ok (summary g)) (formatFault Trailing (past place (f .raw)) (n + 1)) ≡ Ok z → Accepted xs g place z
+      → cond b (Ok (summary g)) (formatFault Trailing (past place (f .raw)) (n + 1)) ≡ Ok z → Accepted xs g place z
   at-end e true t v =
       let none : rest ≡ [] = nil-from-length rest (eqb-true (length rest) 0 t) in
-      record
-        { records = f .raw ∷ []
-        ; end = g
-        ; same = f .same ∙ ap (λ ys. framed (f .raw) ++ ys) none
-        ; runs = (s, f .shows, inl (record { ended = e; alone = refl; same = refl }))
-        ; short = (f .short, tt)
-        ; bytes = (f .bytes, tt)
-        ; sums-up = same-summary (summary g) z v
-        }
+      record {
+        records = f .raw ∷ [];
+        end = g;
+        same = f .same ∙ ap (λ ys. framed (f .raw) ++ ys) none;
+        runs = (s, f .shows, inl (record { ended = e; alone = refl; same = refl }));
+        short = (f .short, tt);
+        bytes = (f .bytes, tt);
+        sums-up = same-summary (summary g) z v;
+      }
   at-end e false t v = absurd (no-fault z _ _ _ v)
 
   -- more records follow
   before-more : (h : Tally) → step g s (past place (f .raw)) ≡ goes h → Accepted rest h (past place (f .raw)) z → Accepted xs g place z
   before-more h e a =
-      record
-        { records = f .raw ∷ a .records
-        ; end = a .end
-        ; same = f .same ∙ ap (λ ys. framed (f .raw) ++ ys) (a .same)
-        ; runs = (s, f .shows, inr (h, e, a .runs))
-        ; short = (f .short, a .short)
-        ; bytes = (f .bytes, a .bytes)
-        ; sums-up = a .sums-up
-        }
+      record {
+        records = f .raw ∷ a .records;
+        end = a .end;
+        same = f .same ∙ ap (λ ys. framed (f .raw) ++ ys) (a .same);
+        runs = (s, f .shows, inr (h, e, a .runs));
+        short = (f .short, a .short);
+        bytes = (f .bytes, a .bytes);
+        sums-up = a .sums-up;
+      }
 
 -- what is accepted is records that run to the end
 pub runs : (most : ℕ) (xs : List ℕ) (place n : ℕ) (g : Tally) (z : Summary) → Bytes xs → walked most xs place n g ≡ Ok z → Accepted xs g place z
@@ -139,6 +139,7 @@ runs (suc most) xs place n g z b v = at-reading (runs most) (reading xs place) r
     at-step go s rest f b′ (goes h) e v′ = before-more xs rest g place n z s f h e (go rest (past place (f .raw)) (n + 1) h z b′ v′)
     at-step go s rest f b′ ends e v′ = at-end xs rest g place n z s f e (eqb (length rest) 0) refl v′
     at-step go s rest f b′ (stops cause) e v′ = absurd (no-fault z _ _ _ v′)
+
     at-reading : (go : (ys : List ℕ) (q m : ℕ) (h : Tally) (y : Summary) → Bytes ys → walked most ys q m h ≡ Ok y → Accepted ys h q y)
         → (w : Reading) → reading xs place ≡ w → afterReading (walked most) g place n (length xs) w ≡ Ok z → Accepted xs g place z
     at-reading go (broken cause) e v′ = absurd (no-record-fault z _ _ _ v′)
@@ -149,4 +150,4 @@ runs (suc most) xs place n g z b v = at-reading (runs most) (reading xs place) r
         let p : place + (length xs - length rest) ≡ past place (f .raw) = omega arith in
         let b′ : Bytes rest = subst Bytes (sym (t .leaves)) (all-drop (λ x. x < 256) (t .long) xs b) in
         at-step go s rest f b′ (step g s (past place (f .raw))) refl
-          (subst (λ q. afterStep (walked most) g place n rest q (step g s q) ≡ Ok z) p v′)
+        (subst (λ q. afterStep (walked most) g place n rest q (step g s q) ≡ Ok z) p v′)
