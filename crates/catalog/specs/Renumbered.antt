@@ -6,6 +6,11 @@ use Prim.Native.Nat.{ℕ, _<_}
 use Rattle.std.proofs.shelf.Tests.{cases-order}
 use Rattle.catalog.specs.Meaning.{Meaning, Lawful}
 use Rattle.catalog.specs.Numbered.{IsNumbering, entry}
+use Rattle.catalog.specs.declared.numbering.Numbering.{Numbering}
+
+-- what a value of the type holds is one
+pub is-numbering : (n : Numbering) → IsNumbering (n .to)
+is-numbering n = record { full = n .full; low = n .low; apart = λ e e′ l h q. n .apart (e, e′) (l, h) q }
 
 abbrev pub renumbered : List ℕ → Meaning → Meaning
 renumbered to m = record {

@@ -1,6 +1,6 @@
 // A catalog with its variables renumbered.
 ghost use mathlib.Core.Path.{_≡_};
-ghost use Rattle.catalog.specs.Renumbered.{renumbered, renumbered-lawful};
+ghost use Rattle.catalog.specs.Renumbered.{renumbered, renumbered-lawful, is-numbering};
 use crate::Catalog;
 use crate::numbering::Numbering;
 
@@ -14,17 +14,15 @@ pub struct Renumbered<C> {
 pub impl<C: Catalog> Catalog for Renumbered<C> as RenumberedCatalog {
     ghost meaning = { λ s. renumbered (s .numbering .to) (C·Catalog .meaning (s .catalog)) };
 
-    ghost lawful = { λ s. renumbered-lawful (s .numbering .to) (record { full = s .numbering .full; low = s .numbering .low; apart = λ e e′ l h q. s .numbering .apart (e, e′) (l, h) q }) (C·Catalog .meaning (s .catalog)) (C·Catalog .lawful (s .catalog)) };
+    ghost lawful = { λ s. renumbered-lawful (s .numbering .to) (is-numbering (s .numbering)) (C·Catalog .meaning (s .catalog)) (C·Catalog .lawful (s .catalog)) };
 
     fn count(&self) -> usize {
         self.catalog.count()
     }
 
     fn ends(&self, p: usize) -> Option<(usize, usize)> {
-        match self.catalog.ends(p) {
-            Some((a, b)) => Some((self.numbering.at(a), self.numbering.at(b))),
-            None => None,
-        }
+        let (a, b) = self.catalog.ends(p)?;
+        Some((self.numbering.at(a), self.numbering.at(b)))
     }
 
     fn allows(&self, p: usize, x: usize, y: usize) -> bool {

@@ -62,7 +62,9 @@ impl Numbering {
     // Entry `e` of those that there are.
     pub(crate) fn at(&self, e: usize) -> usize
         requires { ⌜ e < 32 ⌝ }
-        ensures { λ r. ⌜ r ≡ entry (now (self .entry) .to) e ⌝ }
+        ensures value { λ r. ⌜ r ≡ entry (now (self .entry) .to) e ⌝ }
+        ensures low { λ r. ⌜ r < 32 ⌝ }
+        ensures apart { λ r. ⌜ ((k : ℕ) → k < 32 → (k ≡ e → ⊥) → r ≡ entry (now (self .entry) .to) k → ⊥) ⌝ }
     {
         self.to[e]
     }
