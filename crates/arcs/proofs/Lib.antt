@@ -1,0 +1,3 @@
+pub mod Shrink
+pub mod Exists
+pub mod Unique
