@@ -8,7 +8,7 @@ use native.Mathlib.Omega.{arith}
 use lib.Bits.{bitAnd, bitOr, bitXor, and-shr, or-shr, xor-shr, and-le-l, and-step, or-step, xor-add-and}
 use lib.Pow.{pow-pos, pow-mono}
 use lib.Dec.{eqb, ltb}
-use Rattle.std.proofs.shelf.Tests.{and-parts, and-from, eq-eqb, eqb-true, ne-eqb, lt-ltb, le-ltb, cases-eq, cases-lt}
+use Rattle.std.proofs.shelf.Tests.{both-ways, and-parts, and-from, eq-eqb, eqb-true, ne-eqb, lt-ltb, le-ltb, cases-eq, cases-lt}
 use Rattle.std.proofs.shelf.Ways.{tells}
 use Rattle.bits.specs.Bits.{bitAt, hasBit}
 
@@ -130,3 +130,32 @@ share w a b h p =
 pub share-positive : (a b x : ℕ) → hasBit a x ≡ true → hasBit b x ≡ true → 0 < bitAnd a b
 share-positive a b x p q =
     bit-positive (bitAnd a b) x (eqb-true (bitAt (bitAnd a b) x) 1 (has-and a b x ∙ and-from (hasBit a x) (hasBit b x) p q))
+
+-- a set inside another is the smaller number
+pub inside-le : (w a b : ℕ) → a < 2 ^ w → ((x : ℕ) → bitAt a x ≤ bitAt b x) → a ≤ b
+inside-le zero a b h e = omega arith
+inside-le (suc w) a b h e =
+    let low : a % 2 ≤ b % 2 = omega (arith, bit-zero a, bit-zero b, e 0) in
+    let high : a / 2 ≤ b / 2 =
+    inside-le w (a / 2) (b / 2) (omega (arith, pow-suc 2 w)) (λ x. omega (arith, bit-suc a x, bit-suc b x, e (suc x)))
+    in
+    omega arith
+
+-- a bit is no more than another where the one value's being in implies the other's
+pub has-le : (a b x : ℕ) → (hasBit a x ≡ true → hasBit b x ≡ true) → bitAt a x ≤ bitAt b x
+has-le a b x h = ⊎-elim (λ z. omega arith) (λ o. let t : bitAt b x ≡ 1 = eqb-true (bitAt b x) 1 (h (eq-eqb (bitAt a x) 1 o)) in omega arith) (bit-cases a x)
+
+-- equality of sets as tests
+pub same-sets : (w a b : ℕ) → a < 2 ^ w → b < 2 ^ w → ((x : ℕ) → x < w → hasBit a x ≡ hasBit b x) → a ≡ b
+same-sets w a b h k e =
+    same-bits w a b h k
+    (λ x l. ⊎-elim
+    (λ z. ⊎-elim (λ z′. z ∙ sym z′) (λ o. absurd (both-ways (hasBit a x) (ap (λ n. eqb n 1) z) (e x l ∙ eq-eqb (bitAt b x) 1 o))) (bit-cases b x))
+    (λ o. o ∙ sym (eqb-true (bitAt b x) 1 (sym (e x l) ∙ eq-eqb (bitAt a x) 1 o))) (bit-cases a x))
+
+-- past the width no value is in
+pub has-past : (w d x : ℕ) → d < 2 ^ w → w ≤ x → hasBit d x ≡ false
+has-past w d x h k = ap (λ n. eqb n 1) (bit-past w d x h k)
+
+pub has-of-zero : (x : ℕ) → hasBit 0 x ≡ false
+has-of-zero x = ap (λ n. eqb n 1) (bit-of-zero x)
