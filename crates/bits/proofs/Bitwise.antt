@@ -5,7 +5,7 @@ use mathlib.Core.Logic.{_⊎_, inl, inr, ⊎-elim}
 use Prim.Native.Nat.{ℕ, zero, suc, _+_, _-_, _*_, _/_, _%_, _^_, _<_, _≤_, min, max}
 use native.Mathlib.Nat.{mod-lt, zero-lt-suc, pow-suc, div-one, div-div-eq-div-mul, pow-succ', div-eq-of-lt, le-trans}
 use native.Mathlib.Omega.{arith}
-use lib.Bits.{bitAnd, bitOr, bitXor, and-shr, or-shr, xor-shr, and-le-l, and-step, or-step, xor-add-and}
+use lib.Bits.{bitAnd, bitOr, bitXor, and-shr, or-shr, xor-shr, and-step, or-step, xor-add-and}
 use lib.Pow.{pow-pos, pow-mono}
 use lib.Dec.{eqb, ltb}
 use Rattle.std.proofs.shelf.Tests.{both-ways, and-parts, and-from, eq-eqb, eqb-true, ne-eqb, lt-ltb, le-ltb, cases-eq, cases-lt}
@@ -119,13 +119,21 @@ pub bit-positive : (d x : ℕ) → bitAt d x ≡ 1 → 0 < d
 bit-positive zero x e = absurd (omega (arith, bit-of-zero x))
 bit-positive (suc d) x e = zero-lt-suc d
 
+-- a number has no more bits than it counts
+lt-power : (n : ℕ) → n < 2 ^ n
+lt-power zero = omega arith
+lt-power (suc n) = omega (arith, lt-power n, pow-suc 2 n)
+
 -- two sets share a value exactly when their `&` is not 0
-pub share : (w a b : ℕ) → a < 2 ^ w → 0 < bitAnd a b → (x : ℕ) × (hasBit a x ≡ true) × (hasBit b x ≡ true)
-share w a b h p =
-    let s : (x : ℕ) × (x < w) × (bitAt (bitAnd a b) x ≡ 1) = some-bit w (bitAnd a b) (omega (arith, and-le-l a b)) p in
+pub meet : (a b : ℕ) → 0 < bitAnd a b → (x : ℕ) × (hasBit a x ≡ true) × (hasBit b x ≡ true)
+meet a b p =
+    let s : (x : ℕ) × (x < bitAnd a b) × (bitAt (bitAnd a b) x ≡ 1) = some-bit (bitAnd a b) (bitAnd a b) (lt-power (bitAnd a b)) p in
     let t : (hasBit a (s .0) && hasBit b (s .0)) ≡ true = sym (has-and a b (s .0)) ∙ eq-eqb (bitAt (bitAnd a b) (s .0)) 1 (s .2) in
     let u : (hasBit a (s .0) ≡ true) × (hasBit b (s .0) ≡ true) = and-parts (hasBit a (s .0)) (hasBit b (s .0)) t in
     (s .0, u .0, u .1)
+
+pub share : (w a b : ℕ) → a < 2 ^ w → 0 < bitAnd a b → (x : ℕ) × (hasBit a x ≡ true) × (hasBit b x ≡ true)
+share w a b h p = meet a b p
 
 pub share-positive : (a b x : ℕ) → hasBit a x ≡ true → hasBit b x ≡ true → 0 < bitAnd a b
 share-positive a b x p q =

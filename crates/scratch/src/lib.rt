@@ -1,0 +1,3 @@
+// The largest arc-consistent domains from scratch.
+mod arc;
+mod settle;
