@@ -2,9 +2,9 @@
 use mathlib.Core.Path.{refl}
 use mathlib.Core.Bool.{Bool, false, _&&_}
 use mathlib.Core.List.{List, [], _∷_}
-use Prim.Native.Nat.{ℕ}
+use Prim.Native.Nat.{ℕ, _<_, _≤_}
 use lib.Dec.{eqb}
-use lib.ListN.{getD, replicate}
+use lib.ListN.{getD, length, replicate}
 use Rattle.arcs.specs.Arcs.{Arcs}
 use Rattle.bits.specs.Bits.{hasBit}
 use Rattle.scratch.specs.declared.arc.Arc.{Arc}
@@ -20,3 +20,7 @@ arcsOfRows ks = record {
   far = λ i k. getD ks k offArc .far;
   fits = λ i k x y. hasBit (getD (getD ks k offArc .rows) x 0) y;
 }
+
+-- each size is at most 64
+abbrev pub Bounded : List ℕ → Type 0
+Bounded sizes = (i : ℕ) → i < length sizes → getD sizes i 0 ≤ 64
