@@ -1,2 +1,5 @@
 pub mod Arcs
 pub mod Family
+pub mod WipedOut
+pub mod Around
+pub mod Theorems

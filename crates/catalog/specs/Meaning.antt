@@ -30,3 +30,8 @@ endsOf m p = cond (ltb p (m .count)) (Some (m .left p, m .right p)) None
 -- does p allow x beside y: no where there is no such constraint or a value is above 63
 abbrev pub allowed : Meaning → ℕ → ℕ → ℕ → Bool
 allowed m p x y = ltb p (m .count) && (ltb x 64 && (ltb y 64 && m .allows p x y))
+
+-- what is always so of an answer about ends: two different variables below 32
+abbrev pub GoodEnds : Option (ℕ × ℕ) → Type 0
+GoodEnds None = Unit {0}
+GoodEnds (Some e) = (e .0 < 32) × (e .1 < 32) × (e .0 ≡ e .1 → ⊥)

@@ -1,0 +1,4 @@
+pub mod Shrink
+pub mod Exists
+pub mod Unique
+pub mod Covering

@@ -1,0 +1,4 @@
+pub mod Accepting
+pub mod Keeping
+pub mod Sweeping
+pub mod Translating
