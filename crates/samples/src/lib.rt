@@ -4,6 +4,8 @@ ghost use Rattle.samples.specs.Samples.{Samples};
 ghost use Rattle.samples.specs.Small.{meaningOf, sample-lawful};
 use catalog::Catalog;
 
+pub mod ladder;
+
 // Catalogs of two constraints each.
 #[derive(Clone, Copy)]
 pub enum Sample {
