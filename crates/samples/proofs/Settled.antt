@@ -16,6 +16,7 @@ use Rattle.catalog.specs.Meaning.{Meaning}
 use Rattle.catalog.specs.Constraints.{arcsOf}
 use Rattle.house.specs.Table.{allBelow}
 use Rattle.house.proofs.Tables.{at-each}
+use Rattle.scratch.specs.Named.{named}
 use Rattle.samples.specs.Sets.{among, setsOf, LargestUnder}
 
 abbrev every : (ℕ → Bool) → List ℕ → Bool
@@ -129,7 +130,7 @@ largest a n sizes sets os few t =
     }
 
 pub largest-under : (m : Meaning) (sizes indices : List ℕ) (sets : List (List ℕ)) (os : List Out)
-    → settled (arcsOf m (λ p. among p indices)) (m .count) sizes sets os ≡ true → LargestUnder m sizes indices sets
+    → settled (arcsOf m (named indices)) (m .count) sizes sets os ≡ true → LargestUnder m sizes indices sets
 largest-under m sizes indices sets os t =
-    largest (arcsOf m (λ p. among p indices)) (m .count) sizes sets os
-    (λ i r on. ltb-true r (m .count) (and-parts (ltb r (m .count)) _ (and-parts (among r indices) _ on .1) .0)) t
+    largest (arcsOf m (named indices)) (m .count) sizes sets os
+    (λ i r on. ltb-true r (m .count) (and-parts (ltb r (m .count)) _ (and-parts (named indices r) _ on .1) .0)) t

@@ -8,6 +8,7 @@ use Rattle.arcs.specs.Arcs.{Arcs}
 use Rattle.arcs.specs.Family.{Family, Largest, withinSizes}
 use Rattle.catalog.specs.Meaning.{Meaning}
 use Rattle.catalog.specs.Constraints.{arcsOf}
+use Rattle.scratch.specs.Named.{named}
 
 -- is x in the list
 abbrev pub among : ℕ → List ℕ → Bool
@@ -20,4 +21,4 @@ setsOf sets i x = among x (getD sets i [])
 
 -- Of variables with these sizes, the domains `sets` are the largest consistent ones under those constraints of m whose indices are listed.
 abbrev pub LargestUnder : Meaning → List ℕ → List ℕ → List (List ℕ) → Type 0
-LargestUnder m sizes indices sets = Largest (arcsOf m (λ p. among p indices)) (withinSizes sizes) (setsOf sets)
+LargestUnder m sizes indices sets = Largest (arcsOf m (named indices)) (withinSizes sizes) (setsOf sets)
