@@ -1,0 +1,4 @@
+pub mod Sets
+pub mod Small
+pub mod Samples
+pub mod Rungs
