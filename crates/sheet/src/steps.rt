@@ -27,7 +27,7 @@ pub enum Flow {
 }
 
 // nothing has been read yet
-pub fn nothing_yet() -> Progress
+pub(crate) fn nothing_yet() -> Progress
     ensures { λ r. ⌜ tallyOf r ≡ nothingYet ⌝ }
 {
     let variables = [Variable { size: 0, house: 0 }; 32];
@@ -400,7 +400,7 @@ fn ending(progress: &Progress, body: &[u8]) -> Result<Flow, Cause>
 }
 
 // One record more, which ends before the byte `after` of the sheet.
-pub fn admit(progress: Progress, record: Record<'_>, after: u32) -> Result<Flow, Cause>
+pub(crate) fn admit(progress: Progress, record: Record<'_>, after: u32) -> Result<Flow, Cause>
     requires { ⌜ progress .moves < 65536 ⌝ }
     ensures { λ r. ⌜ flowOf r ≡ step (tallyOf progress) (shownBy («record» .entry)) after ⌝ }
 {

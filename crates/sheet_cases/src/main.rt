@@ -67,7 +67,10 @@ fn try_case(rt: &LibcRuntime, name: &str, sheet: &[u8]) -> Result<(), AnyError> 
             let line = accepted_line(rt.alloc(), found)?;
             let constraints = found.constraints_at;
             let moves = found.moves_at;
-            println!(rt, "{name}: {line}; constraints at {constraints}, moves at {moves}")?;
+            println!(
+                rt,
+                "{name}: {line}; constraints at {constraints}, moves at {moves}"
+            )?;
         }
         Err(fault) => {
             let line = fault_line(rt.alloc(), fault)?;
