@@ -1,8 +1,9 @@
 -- Constraints of a catalog kept as arcs: constraint p, seen from its left end and from its right end, at the places 2 p and 2 p + 1.
 use mathlib.Core.Path.{_≡_}
-use mathlib.Core.Bool.{Bool, true, false}
+use mathlib.Core.Bool.{Bool, true, false, _||_}
 use mathlib.Core.List.{List}
 use Prim.Native.Nat.{ℕ, _+_, _*_, _<_}
+use lib.Dec.{eqb}
 use lib.ListN.{getD}
 use Rattle.bits.specs.Bits.{hasBit}
 use Rattle.catalog.specs.Meaning.{Meaning, allowed}
@@ -30,3 +31,8 @@ pub record Free (ks : List Arc) (p : ℕ) : Type 0 where
 pub record Filled (m : Meaning) (sizes : List ℕ) (chosen : ℕ → Bool) (ks : List Arc) : Type 0 where
   pub kept : (p : ℕ) → chosen p ≡ true → Kept m sizes ks p
   pub free : (p : ℕ) → chosen p ≡ false → Free ks p
+
+-- whatever was kept before, the constraint p is kept too
+abbrev pub Adds : Meaning → List ℕ → ℕ → List Arc → List Arc → Type 0
+Adds m sizes p before after =
+    (chosen : ℕ → Bool) → Filled m sizes chosen before → Filled m sizes (λ q. eqb p q || chosen q) after

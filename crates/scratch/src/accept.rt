@@ -20,7 +20,7 @@ fn check_indices<C: Catalog>(catalog: &C, n: usize, indices: &[usize]) -> Result
 }
 
 // The first cause that refuses these arguments, where `room` is the length of the result list.
-pub fn check<C: Catalog>(
+pub(crate) fn check<C: Catalog>(
     catalog: &C,
     sizes: &[usize],
     indices: &[usize],

@@ -1,14 +1,13 @@
 // The constraints named, asked of the catalog once for each pair of values and kept as arcs.
 ghost use Prim.Native.Nat.{ℕ, _<_, _≤_};
-ghost use lib.Dec.{eqb};
 ghost use lib.ListN.{getD, length, replicate};
-ghost use mathlib.Core.Bool.{Bool, _||_, false};
+ghost use mathlib.Core.Bool.{false};
 ghost use mathlib.Core.Path.{_≡_};
 ghost use Rattle.arcs.specs.Family.{withinSizes};
 ghost use Rattle.bits.specs.Bits.{domainsOf, hasBit};
 ghost use Rattle.catalog.specs.Meaning.{allowed, endsOf};
 ghost use Rattle.refusal.specs.Causes.{constraintRefusal};
-ghost use Rattle.scratch.specs.Filled.{Filled};
+ghost use Rattle.scratch.specs.Filled.{Adds, Filled};
 ghost use Rattle.scratch.specs.Named.{named};
 ghost use Rattle.scratch.specs.Refused.{indicesRefusal};
 ghost use Rattle.scratch.specs.Rows.{Bounded, offArc};
@@ -36,7 +35,7 @@ fn off() -> Arc
 }
 
 // 256 arcs that are off.
-pub fn no_arcs() -> [Arc; 256]
+pub(crate) fn no_arcs() -> [Arc; 256]
     ensures len { λ r. ⌜ length r ≡ 256 ⌝ }
     ensures off { λ r. ⌜ ((k : ℕ) → getD r k offArc .on ≡ false) ⌝ }
 {
@@ -102,7 +101,7 @@ fn put<C: Catalog>(catalog: &C, sizes: &[usize], p: usize, a: usize, b: usize, a
     requires bounded { ⌜ Bounded (now sizes) ⌝ }
     requires low { ⌜ p < 128 ⌝ }
     requires len { ⌜ length (now arcs) ≡ 256 ⌝ }
-    ensures { λ _. ⌜ ((chosen : ℕ → Bool) → Filled (C·Catalog .meaning (now (catalog .entry))) (now (sizes .entry)) chosen (now (arcs .entry)) → Filled (C·Catalog .meaning (now (catalog .entry))) (now (sizes .entry)) (λ q. eqb p q || chosen q) (now (arcs .exit))) ⌝ }
+    ensures { λ _. ⌜ Adds (C·Catalog .meaning (now (catalog .entry))) (now (sizes .entry)) p (now (arcs .entry)) (now (arcs .exit)) ⌝ }
 {
     let there = rows(catalog, p, sizes[a], sizes[b]);
     let back = columns(&there);
@@ -125,7 +124,7 @@ fn keep<C: Catalog>(catalog: &C, sizes: &[usize], p: usize, arcs: &mut [Arc])
     requires accepted { ⌜ constraintRefusal (C·Catalog .meaning (now catalog)) (length (now sizes)) p ≡ None ⌝ }
     requires bounded { ⌜ Bounded (now sizes) ⌝ }
     requires len { ⌜ length (now arcs) ≡ 256 ⌝ }
-    ensures { λ _. ⌜ ((chosen : ℕ → Bool) → Filled (C·Catalog .meaning (now (catalog .entry))) (now (sizes .entry)) chosen (now (arcs .entry)) → Filled (C·Catalog .meaning (now (catalog .entry))) (now (sizes .entry)) (λ q. eqb p q || chosen q) (now (arcs .exit))) ⌝ }
+    ensures { λ _. ⌜ Adds (C·Catalog .meaning (now (catalog .entry))) (now (sizes .entry)) p (now (arcs .entry)) (now (arcs .exit)) ⌝ }
 {
     if let Some((a, b)) = catalog.ends(p) {
         if !arcs[2 * p].on {
@@ -135,7 +134,7 @@ fn keep<C: Catalog>(catalog: &C, sizes: &[usize], p: usize, arcs: &mut [Arc])
 }
 
 // Keeps each constraint that `indices` names.
-pub fn fill<C: Catalog>(catalog: &C, sizes: &[usize], indices: &[usize], arcs: &mut [Arc])
+pub(crate) fn fill<C: Catalog>(catalog: &C, sizes: &[usize], indices: &[usize], arcs: &mut [Arc])
     requires accepted { ⌜ indicesRefusal (C·Catalog .meaning (now catalog)) (length (now sizes)) (now indices) ≡ None ⌝ }
     requires bounded { ⌜ Bounded (now sizes) ⌝ }
     requires len { ⌜ length (now arcs) ≡ 256 ⌝ }
@@ -148,7 +147,7 @@ pub fn fill<C: Catalog>(catalog: &C, sizes: &[usize], indices: &[usize], arcs: &
 }
 
 // Every value of every variable.
-pub fn whole(sizes: &[usize], domains: &mut [u64])
+pub(crate) fn whole(sizes: &[usize], domains: &mut [u64])
     requires len { ⌜ length (now domains) ≡ length (now sizes) ⌝ }
     requires bounded { ⌜ Bounded (now sizes) ⌝ }
     ensures { λ _. ⌜ ((i x : ℕ) → domainsOf (now (domains .exit)) i x ≡ withinSizes (now (sizes .entry)) i x) ⌝ }

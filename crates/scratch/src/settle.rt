@@ -49,7 +49,7 @@ fn pass(arcs: &[Arc], stale: u64, domains: &mut [u64]) -> u64
 }
 
 // Puts values out until each one has a support under every arc.
-pub fn settle(arcs: &[Arc], domains: &mut [u64])
+pub(crate) fn settle(arcs: &[Arc], domains: &mut [u64])
     requires placed { ⌜ Placed (now arcs) (length (now domains)) ⌝ }
     requires few { ⌜ length (now domains) ≤ 64 ⌝ }
     ensures { λ _. ⌜ Largest (arcsOfRows (now (arcs .entry))) (domainsOf (now (domains .entry))) (domainsOf (now (domains .exit))) ⌝ }
