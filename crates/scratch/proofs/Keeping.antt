@@ -15,7 +15,7 @@ use Rattle.bits.specs.Bits.{hasBit}
 use Rattle.catalog.specs.Meaning.{Meaning, endsOf, allowed}
 use Rattle.scratch.specs.declared.arc.Arc.{Arc}
 use Rattle.scratch.specs.Rows.{offArc, Bounded}
-use Rattle.scratch.specs.Filled.{Holds, Kept, Free, Filled}
+use Rattle.scratch.specs.Filled.{Holds, Turned, Kept, Free, Filled, Adds}
 use Rattle.scratch.specs.Named.{named}
 
 -- a list of arcs that are off
@@ -89,33 +89,28 @@ module _ (ks : List Arc) (p : ℕ) (there back : Arc) where
         };
   }
 
--- the two arcs that are written for p, from its rows and from their columns
+-- an arc turned holds the pairs turned
+turned-holds
+    : (sizes : List ℕ) (a b : ℕ) (fits : ℕ → ℕ → Bool) (there back : Arc) → getD sizes a 0 ≤ 64 → getD sizes b 0 ≤ 64 → Holds sizes a b fits there
+    → Turned there back → Holds sizes b a (λ y x. fits x y) back
+turned-holds sizes a b fits there back la lb h t = record {
+  on = t .on ∙ h .on;
+  at-near = t .near ∙ h .at-far;
+  at-far = t .far ∙ h .at-near;
+  rows = λ y x ly lx. t .rows x y (omega arith) (omega arith) ∙ h .rows x y lx ly;
+}
+
+-- the two arcs that are written for p
 pub put-filled
-    : (m : Meaning) (sizes : List ℕ) (ks : List Arc) (p a b : ℕ) (rows columns : List ℕ) (full : length rows ≡ 64) (full′ : length columns ≡ 64)
-    → Some (a, b) ≡ endsOf m p → Bounded sizes → a < length sizes → b < length sizes → p < 128 → length ks ≡ 256
-    → ((x y : ℕ) → x < getD sizes a 0 → y < getD sizes b 0 → hasBit (getD rows x 0) y ≡ allowed m p x y)
-    → ((x y : ℕ) → x < 64 → y < 64 → hasBit (getD columns y 0) x ≡ hasBit (getD rows x 0) y) → (chosen : ℕ → Bool)
-    → Filled m sizes chosen ks
-    → Filled m sizes (λ q. eqb p q || chosen q)
-    (set (set ks (2 * p) (record { on = true; near = a; far = b; rows = rows; full = full })) (2 * p + 1)
-    (record { on = true; near = b; far = a; rows = columns; full = full′ }))
-put-filled m sizes ks p a b rows columns full full′ ends bounded la lb low len right turned chosen filled =
+    : (m : Meaning) (sizes : List ℕ) (ks : List Arc) (p a b : ℕ) (there back : Arc) → Some (a, b) ≡ endsOf m p → Bounded sizes → a < length sizes
+    → b < length sizes → p < 128 → length ks ≡ 256 → Holds sizes a b (allowed m p) there → Turned there back
+    → Adds m sizes p ks (set (set ks (2 * p) there) (2 * p + 1) back)
+put-filled m sizes ks p a b there back ends bounded la lb low len ht t =
     let e : (p < m .count) × (a ≡ m .left p) × (b ≡ m .right p) = ends-known m p a b ends in
-    let there : Arc = record { on = true; near = a; far = b; rows = rows; full = full } in
-    let back : Arc = record { on = true; near = b; far = a; rows = columns; full = full′ } in
-    let ht : Holds sizes a b (allowed m p) there = record { on = refl; at-near = refl; at-far = refl; rows = right } in
-    let hb : Holds sizes b a (λ y x. allowed m p x y) back =
-    record {
-      on = refl;
-      at-near = refl;
-      at-far = refl;
-      rows = λ y x ly lx. turned x y (omega (arith, bounded a la)) (omega (arith, bounded b lb)) ∙ right x y lx ly;
-    }
-    in
+    let hb : Holds sizes b a (λ y x. allowed m p x y) back = turned-holds sizes a b (allowed m p) there back (bounded a la) (bounded b lb) ht t in
     kept-put ks p there back m sizes len low
     (subst (λ j. Holds sizes j (m .right p) (allowed m p) there) (e .1) (subst (λ j. Holds sizes a j (allowed m p) there) (e .2) ht))
     (subst (λ j. Holds sizes (m .right p) j (λ y x. allowed m p x y) back) (e .1) (subst (λ j. Holds sizes j a (λ y x. allowed m p x y) back) (e .2) hb))
-    chosen filled
 
 -- ---- one that is kept already, and none at first
 

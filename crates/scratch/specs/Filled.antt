@@ -17,6 +17,13 @@ pub record Holds (sizes : List ℕ) (near far : ℕ) (fits : ℕ → ℕ → Boo
   pub at-far : arc .far ≡ far
   pub rows : (x y : ℕ) → x < getD sizes near 0 → y < getD sizes far 0 → hasBit (getD (arc .rows) x 0) y ≡ fits x y
 
+-- the same pairs of values, seen from the other end
+pub record Turned (arc other : Arc) : Type 0 where
+  pub on : other .on ≡ arc .on
+  pub near : other .near ≡ arc .far
+  pub far : other .far ≡ arc .near
+  pub rows : (x y : ℕ) → x < 64 → y < 64 → hasBit (getD (other .rows) y 0) x ≡ hasBit (getD (arc .rows) x 0) y
+
 -- the constraint p both ways
 pub record Kept (m : Meaning) (sizes : List ℕ) (ks : List Arc) (p : ℕ) : Type 0 where
   pub there : Holds sizes (m .left p) (m .right p) (allowed m p) (getD ks (2 * p) offArc)

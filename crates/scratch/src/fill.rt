@@ -7,7 +7,7 @@ ghost use Rattle.arcs.specs.Family.{withinSizes};
 ghost use Rattle.bits.specs.Bits.{domainsOf, hasBit};
 ghost use Rattle.catalog.specs.Meaning.{allowed, endsOf};
 ghost use Rattle.refusal.specs.Causes.{constraintRefusal};
-ghost use Rattle.scratch.specs.Filled.{Adds, Filled};
+ghost use Rattle.scratch.specs.Filled.{Adds, Filled, Holds, Turned};
 ghost use Rattle.scratch.specs.Named.{named};
 ghost use Rattle.scratch.specs.Refused.{indicesRefusal};
 ghost use Rattle.scratch.specs.Rows.{Bounded, offArc};
@@ -93,6 +93,35 @@ fn columns(rows: &[u64; 64]) -> [u64; 64]
     columns
 }
 
+// The constraint `p` seen from its left end `a`, with the right end `b`.
+fn from_left<C: Catalog>(catalog: &C, sizes: &[usize], p: usize, a: usize, b: usize) -> Arc
+    requires left { ⌜ a < length (now sizes) ⌝ }
+    requires right { ⌜ b < length (now sizes) ⌝ }
+    requires bounded { ⌜ Bounded (now sizes) ⌝ }
+    ensures { λ r. ⌜ Holds (now (sizes .entry)) a b (allowed (C·Catalog .meaning (now (catalog .entry))) p) r ⌝ }
+{
+    let rows = rows(catalog, p, sizes[a], sizes[b]);
+    Arc {
+        on: true,
+        near: a,
+        far: b,
+        rows,
+    }
+}
+
+// The same constraint seen from its other end.
+fn turned(arc: &Arc) -> Arc
+    ensures { λ r. ⌜ Turned (now (arc .entry)) r ⌝ }
+{
+    let rows = columns(&arc.rows);
+    Arc {
+        on: arc.on,
+        near: arc.far,
+        far: arc.near,
+        rows,
+    }
+}
+
 // Keeps the constraint `p`, between the variables `a` and `b`, both ways.
 fn put<C: Catalog>(catalog: &C, sizes: &[usize], p: usize, a: usize, b: usize, arcs: &mut [Arc])
     requires ends { ⌜ Some (a, b) ≡ endsOf (C·Catalog .meaning (now catalog)) p ⌝ }
@@ -103,20 +132,9 @@ fn put<C: Catalog>(catalog: &C, sizes: &[usize], p: usize, a: usize, b: usize, a
     requires len { ⌜ length (now arcs) ≡ 256 ⌝ }
     ensures { λ _. ⌜ Adds (C·Catalog .meaning (now (catalog .entry))) (now (sizes .entry)) p (now (arcs .entry)) (now (arcs .exit)) ⌝ }
 {
-    let there = rows(catalog, p, sizes[a], sizes[b]);
-    let back = columns(&there);
-    arcs[2 * p] = Arc {
-        on: true,
-        near: a,
-        far: b,
-        rows: there,
-    };
-    arcs[2 * p + 1] = Arc {
-        on: true,
-        near: b,
-        far: a,
-        rows: back,
-    };
+    let there = from_left(catalog, sizes, p, a, b);
+    arcs[2 * p] = there;
+    arcs[2 * p + 1] = turned(&there);
 }
 
 // Keeps the constraint `p`, unless it is kept already.

@@ -1,6 +1,6 @@
 // Values without support are put out until every value has its supports.
 ghost use Prim.Native.Nat.{ℕ, _<_, _≤_};
-ghost use lib.ListN.{length};
+ghost use lib.ListN.{getD, length};
 ghost use mathlib.Core.Path.{_≡_};
 ghost use Rattle.arcs.specs.Family.{Largest};
 ghost use Rattle.bits.specs.Bits.{domainsOf, hasBit};
@@ -21,6 +21,15 @@ fn supported(arc: &Arc, near: u64, far: u64) -> u64
     stay
 }
 
+// What is left of the near variable's domain.
+fn remaining(arc: &Arc, domains: &[u64]) -> u64
+    requires near { ⌜ now arc .near < length (now domains) ⌝ }
+    requires far { ⌜ now arc .far < length (now domains) ⌝ }
+    ensures { λ r. ⌜ ((x : ℕ) → hasBit r x ≡ stays (now (arc .entry)) (getD (now (domains .entry)) (now (arc .entry) .near) 0) (getD (now (domains .entry)) (now (arc .entry) .far) 0) x) ⌝ }
+{
+    supported(arc, domains[arc.near], domains[arc.far])
+}
+
 // Puts the values without support out of the near variable's domain, and says whether there were any.
 fn revise(arc: &Arc, domains: &mut [u64]) -> bool
     requires near { ⌜ now arc .near < length (now domains) ⌝ }
@@ -28,7 +37,7 @@ fn revise(arc: &Arc, domains: &mut [u64]) -> bool
     ensures { λ r. ⌜ Revised (now (arc .entry)) (now (domains .entry)) (now (domains .exit)) r ⌝ }
 {
     let before = domains[arc.near];
-    let stay = supported(arc, before, domains[arc.far]);
+    let stay = remaining(arc, domains);
     domains[arc.near] = stay;
     stay != before
 }

@@ -4,4 +4,4 @@ use Rattle.scratch.proofs.Sweeping.{revised-made}
 use Rattle.scratch.proofs.settle.revise.Needs as need
 
 pub returns : need.returns
-returns c = revised-made (c .args .arc .now) (c .args .domains .now) (c .supported-stay .result) (omega arith) (c .supported-stay .ensures)
+returns c = revised-made (c .args .arc .now) (c .args .domains .now) (c .remaining-stay .result) (omega arith) (c .remaining-stay .ensures)

@@ -8,22 +8,22 @@ use Rattle.std.proofs.shelf.Lists.{length-take-le}
 use Rattle.catalog.specs.Meaning.{Meaning}
 use Rattle.scratch.proofs.Accepting.{Accepted, accepted}
 use Rattle.scratch.proofs.Translating.{kept-placed, written}
-use Rattle.scratch.proofs.largest_domains.Needs as need
+use Rattle.scratch.proofs.write.Needs as need
 
 pub fill-requires : need.fill-requires
 fill-requires g c κs =
-    let a = accepted (g .C·Catalog .meaning (c .args .catalog .now)) (c .args .sizes .now) (c .args .indices .now) (length (c .args .result .now)) (c .in-Continue-check .ensures tt) in
+    let a = accepted (g .C·Catalog .meaning (c .args .catalog .now)) (c .args .sizes .now) (c .args .indices .now) (length (c .args .result .now)) (c .pre) in
     record { accepted = a .each; bounded = a .bounded; len = c .no-arcs-arcs .ensures .len; off = c .no-arcs-arcs .ensures .off }
 
 pub whole-requires : need.whole-requires
 whole-requires g c κs =
-    let a = accepted (g .C·Catalog .meaning (c .args .catalog .now)) (c .args .sizes .now) (c .args .indices .now) (length (c .args .result .now)) (c .in-Continue-check .ensures tt) in
+    let a = accepted (g .C·Catalog .meaning (c .args .catalog .now)) (c .args .sizes .now) (c .args .indices .now) (length (c .args .result .now)) (c .pre) in
     record { len = length-take-le _ (c .args .result .now) (omega (arith, a .wide)) ∙ sub-zero (length (c .args .sizes .now)); bounded = a .bounded }
 
 pub settle-requires : need.settle-requires
 settle-requires g c κs =
     let m = g .C·Catalog .meaning (c .args .catalog .now) in
-    let a = accepted m (c .args .sizes .now) (c .args .indices .now) (length (c .args .result .now)) (c .in-Continue-check .ensures tt) in
+    let a = accepted m (c .args .sizes .now) (c .args .indices .now) (length (c .args .result .now)) (c .pre) in
     let len : length (c .whole .last .domains) ≡ length (c .args .sizes .now) =
     c .whole .kept .domains ∙ length-take-le _ (c .args .result .now) (omega (arith, a .wide)) ∙ sub-zero (length (c .args .sizes .now))
     in
@@ -38,13 +38,10 @@ settle-requires g c κs =
 pub returns : need.returns
 returns g c =
     let m = g .C·Catalog .meaning (c .args .catalog .now) in
-    let a = accepted m (c .args .sizes .now) (c .args .indices .now) (length (c .args .result .now)) (c .in-Continue-check .ensures tt) in
+    let a = accepted m (c .args .sizes .now) (c .args .indices .now) (length (c .args .result .now)) (c .pre) in
     let len : length (c .settle .last .domains) ≡ length (c .args .sizes .now) =
     c .settle .kept .domains ∙ c .whole .kept .domains ∙ length-take-le _ (c .args .result .now) (omega (arith, a .wide)) ∙ sub-zero (length (c .args .sizes .now))
     in
-    record {
-      refused = c .in-Continue-check .ensures tt;
-      cases =
-          written m (g .C·Catalog .lawful (c .args .catalog .now)) (c .args .sizes .now) (c .args .indices .now) (c .fill .last .arcs) (a .each) (c .fill .ensures)
-          _ (c .args .result .now) (c .whole .last .domains) (c .settle .last .domains) (sub-zero (length (c .args .sizes .now))) len (c .whole .ensures) (c .settle .ensures);
-    }
+    written m (g .C·Catalog .lawful (c .args .catalog .now)) (c .args .sizes .now) (c .args .indices .now) (c .fill .last .arcs) (a .each) (c .fill .ensures)
+    _ (c .args .result .now) (c .whole .last .domains) (c .settle .last .domains) (sub-zero (length (c .args .sizes .now))) len (c .whole .ensures)
+    (c .settle .ensures)
