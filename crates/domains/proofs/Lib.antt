@@ -1,0 +1,4 @@
+pub mod Entries
+pub mod Values
+pub mod Facing
+pub mod Revise

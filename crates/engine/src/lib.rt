@@ -1,0 +1,3 @@
+// Incremental arc consistency with justifications, on plain data.
+mod revise;
+mod values;
