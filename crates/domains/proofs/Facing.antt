@@ -1,11 +1,12 @@
 -- A constraint that is in, seen from its left end and from its right end.
 use mathlib.Core.Path.{_≡_, refl, sym, ap, _∙_}
 use mathlib.Core.Bool.{Bool, true, false, cond, _&&_, _||_}
+use mathlib.Core.Logic.{_⊎_, inl, inr, ⊎-elim}
 use Prim.Native.Nat.{ℕ, _+_, _*_, _<_, _≤_}
 use native.Mathlib.Omega.{arith}
 use lib.Dec.{ltb, eqb}
 use lib.ListN.{getD}
-use Rattle.std.proofs.shelf.Tests.{and-from, or-left, or-right, lt-ltb, eq-eqb, ne-eqb, cond-true, cond-false}
+use Rattle.std.proofs.shelf.Tests.{and-from, and-parts, or-cases, eqb-true, or-left, or-right, lt-ltb, ltb-true, eq-eqb, ne-eqb, cond-true, cond-false}
 use Rattle.bits.specs.Bits.{hasBit}
 use Rattle.domains.specs.declared.Arc.{Arc}
 use Rattle.domains.specs.declared.Constraints.{Constraints}
@@ -16,12 +17,12 @@ module _ (c : Constraints) (p : ℕ) (shape : Shape c) (low : p < 128) (present 
   private-apart : eqb (leftOf c p) (rightOf c p) ≡ false
   private-apart = ne-eqb (leftOf c p) (rightOf c p) (shape .apart p present)
 
-  on-left : arcsOf c .on (leftOf c p) p ≡ true
+  pub on-left : arcsOf c .on (leftOf c p) p ≡ true
   on-left =
       and-from (ltb p 128) _ (lt-ltb p 128 low)
       (and-from (isPresent c p) _ present (or-left (eqb (leftOf c p) (leftOf c p)) _ (eq-eqb (leftOf c p) (leftOf c p) refl)))
 
-  on-right : arcsOf c .on (rightOf c p) p ≡ true
+  pub on-right : arcsOf c .on (rightOf c p) p ≡ true
   on-right =
       and-from (ltb p 128) _ (lt-ltb p 128 low)
       (and-from (isPresent c p) _ present (or-right (eqb (leftOf c p) (rightOf c p)) _ (eq-eqb (rightOf c p) (rightOf c p) refl)))
@@ -42,6 +43,13 @@ module _ (c : Constraints) (p : ℕ) (shape : Shape c) (low : p < 128) (present 
   fits-right : (x y : ℕ) → arcsOf c .fits (rightOf c p) p x y ≡ pairAt c p y x
   fits-right x y = cond-false (eqb (leftOf c p) (rightOf c p)) _ _ private-apart
 
+  -- a constraint ties its two ends and no other variable
+  ends-of : (i : ℕ) → arcsOf c .on i p ≡ true → (i ≡ leftOf c p) ⊎ (i ≡ rightOf c p)
+  ends-of i h =
+      let a : (isPresent c p && (eqb (leftOf c p) i || eqb (rightOf c p) i)) ≡ true = and-parts (ltb p 128) _ h .1 in
+      ⊎-elim (λ e. inl (sym (eqb-true (leftOf c p) i e))) (λ e. inr (sym (eqb-true (rightOf c p) i e)))
+      (or-cases (eqb (leftOf c p) i) (eqb (rightOf c p) i) (and-parts (isPresent c p) _ a .1))
+
   pub facing-left : Facing c (record { constraint = p; near = leftOf c p; far = rightOf c p; rows = 128 * p })
   facing-left =
       record {
@@ -54,6 +62,7 @@ module _ (c : Constraints) (p : ℕ) (shape : Shape c) (low : p < 128) (present 
         far = far-left;
         on-far = on-right;
         far-far = far-right;
+        ends = ends-of;
         fits = λ x y h _. fits-left x y ∙ pair-row x y h;
         turned = λ x y h _. fits-right y x ∙ pair-row x y h;
       }
@@ -70,6 +79,42 @@ module _ (c : Constraints) (p : ℕ) (shape : Shape c) (low : p < 128) (present 
         far = far-right;
         on-far = on-left;
         far-far = far-left;
+        ends = λ i h. ⊎-elim (λ e. inr e) (λ e. inl e) (ends-of i h);
         fits = λ x y h k. fits-right x y ∙ pair-row y x k ∙ sym (shape .mirror p y x low k h);
         turned = λ x y h k. fits-left y x ∙ pair-row y x k ∙ sym (shape .mirror p y x low k h);
       }
+
+-- what a reason that is on says of its constraint
+pub on-low : (c : Constraints) (i p : ℕ) → arcsOf c .on i p ≡ true → p < 128
+on-low c i p h = ltb-true p 128 (and-parts (ltb p 128) _ h .0)
+
+pub on-present : (c : Constraints) (i p : ℕ) → arcsOf c .on i p ≡ true → isPresent c p ≡ true
+on-present c i p h =
+    let a : (isPresent c p && (eqb (leftOf c p) i || eqb (rightOf c p) i)) ≡ true = and-parts (ltb p 128) _ h .1 in
+    and-parts (isPresent c p) _ a .0
+
+-- the arc of a reason that is on
+pub record Seen (c : Constraints) (i p : ℕ) : Type 0 where
+  pub arc : Arc
+  pub facing : Facing c arc
+  pub near : arc .near ≡ i
+  pub constraint : arc .constraint ≡ p
+
+pub seen : (c : Constraints) (i p : ℕ) → Shape c → arcsOf c .on i p ≡ true → Seen c i p
+seen c i p shape h =
+    let low : p < 128 = on-low c i p h in
+    let pr : isPresent c p ≡ true = on-present c i p h in
+    ⊎-elim
+    (λ e. record { arc = _; facing = facing-left c p shape low pr; near = sym e; constraint = refl })
+    (λ e. record { arc = _; facing = facing-right c p shape low pr; near = sym e; constraint = refl })
+    (ends-of c p shape low pr i h)
+
+-- a reason is on at its far end too
+pub on-at-far : (c : Constraints) (i p : ℕ) → Shape c → arcsOf c .on i p ≡ true → arcsOf c .on (arcsOf c .far i p) p ≡ true
+on-at-far c i p shape h =
+    let low : p < 128 = on-low c i p h in
+    let pr : isPresent c p ≡ true = on-present c i p h in
+    ⊎-elim
+    (λ e. rw e (rw (far-left c p shape low pr) (on-right c p shape low pr)))
+    (λ e. rw e (rw (far-right c p shape low pr) (on-left c p shape low pr)))
+    (ends-of c p shape low pr i h)

@@ -2,3 +2,4 @@ pub mod Entries
 pub mod Values
 pub mod Facing
 pub mod Revise
+pub mod Settle

@@ -2,6 +2,7 @@
 use mathlib.Core.Path.{_≡_}
 use mathlib.Core.Bool.{Bool, true, false}
 use mathlib.Core.List.{List}
+use mathlib.Core.Logic.{_⊎_}
 use Prim.Native.Nat.{ℕ, _+_, _*_, _^_, _<_, _≤_}
 use lib.ListN.{length, getD}
 use Rattle.arcs.specs.Arcs.{Arcs}
@@ -63,6 +64,7 @@ pub record Facing (c : Constraints) (a : Arc) : Type 0 where
   pub on : arcsOf c .on (a .near) (a .constraint) ≡ true
   pub far : arcsOf c .far (a .near) (a .constraint) ≡ a .far
   pub on-far : arcsOf c .on (a .far) (a .constraint) ≡ true
+  pub ends : (i : ℕ) → arcsOf c .on i (a .constraint) ≡ true → (i ≡ a .near) ⊎ (i ≡ a .far)
   pub far-far : arcsOf c .far (a .far) (a .constraint) ≡ a .near
   pub fits : (x y : ℕ) → x < 64 → y < 64 → arcsOf c .fits (a .near) (a .constraint) x y ≡ hasBit (getD (c .rows) (a .rows + x) 0) y
   pub turned : (x y : ℕ) → x < 64 → y < 64 → arcsOf c .fits (a .far) (a .constraint) y x ≡ hasBit (getD (c .rows) (a .rows + x) 0) y
@@ -79,3 +81,15 @@ pub record Revising (c : Constraints) (d d′ : Domains) (a : Arc) (x : ℕ) : T
   pub sound : Sound c d′
   pub went : Went c d d′
   pub below : RevisedBelow c d d′ a x
+
+-- each value has a support under the constraint r
+abbrev pub Supported : Constraints → Domains → ℕ → Type 0
+Supported c d r = (i x : ℕ) → arcsOf c .on i r ≡ true → shown d i x ≡ true → Support (arcsOf c) (shown d) i r x
+
+-- under each constraint that is not marked, but for p, each value has a support
+abbrev pub SettledBut : Constraints → Domains → List Bool → ℕ → Type 0
+SettledBut c d marks p = (r : ℕ) → getD marks r false ≡ false → (r ≡ p → ⊥) → Supported c d r
+
+-- under each constraint that is not marked, each value has a support
+abbrev pub Settled : Constraints → Domains → List Bool → Type 0
+Settled c d marks = (r : ℕ) → getD marks r false ≡ false → Supported c d r
