@@ -6,7 +6,7 @@ use mathlib.Core.Logic.{⊎-elim, _≢_}
 use Prim.Native.Nat.{ℕ, zero, suc, _+_, _*_, _<_, _≤_, _^_}
 use native.Mathlib.Omega.{arith}
 use native.Mathlib.Nat.{add-assoc, add-comm}
-use lib.Count.{ones}
+use lib.Count.{ones, ones-le}
 use lib.Dec.{ltb, eqb}
 use lib.ListN.{length, getD, set}
 use Rattle.std.proofs.shelf.Lists.{getD-set-same, getD-set-other}
@@ -31,3 +31,13 @@ pub total-set : (ds : List ℕ) (i d : ℕ) → i < length ds → total (set ds 
 total-set [] i d h = absurd (omega arith)
 total-set (e ∷ ds) zero d h = omega arith
 total-set (e ∷ ds) (suc i) d h = omega (arith, total-set ds i d (omega arith))
+
+-- at most 64 values in each set
+pub total-few : (ds : List ℕ) → ((i : ℕ) → getD ds i 0 < 2 ^ 64) → total ds ≤ 64 * length ds
+total-few [] h = omega arith
+total-few (d ∷ ds) h = omega (arith, ones-le 64 d (h 0), total-few ds (λ i. h (suc i)))
+
+-- what stands in the array
+pub entry-read : (xs : List ℕ) (i x : ℕ) → x < 64 → entry xs i x ≡ getD xs (64 * i + x) 0
+unfolding entry
+entry-read xs i x h = cond-true (ltb x 64) _ 0 (lt-ltb x 64 h)

@@ -3,3 +3,4 @@ pub mod Values
 pub mod Facing
 pub mod Revise
 pub mod Settle
+pub mod Release

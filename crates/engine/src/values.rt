@@ -34,6 +34,7 @@ pub(crate) fn put_back(d: &mut Domains, variable: usize, value: usize)
     ensures put { λ _. ⌜ PutBack (standing (now (d .entry))) (standing (now (d .exit))) variable value ⌝ }
     ensures sized { λ _. ⌜ Sized (now (d .exit)) ⌝ }
     ensures clock { λ _. ⌜ now (d .exit) .clock ≡ now (d .entry) .clock ⌝ }
+    ensures why { λ _. ⌜ now (d .exit) .why ≡ now (d .entry) .why ⌝ }
     ensures more { λ _. ⌜ total (now (d .exit) .sets) ≡ total (now (d .entry) .sets) + 1 ⌝ }
     ensures others { λ _. ⌜ ((j : ℕ) → (j ≡ variable → ⊥) → getD (now (d .exit) .sets) j 0 ≡ getD (now (d .entry) .sets) j 0) ⌝ }
 {

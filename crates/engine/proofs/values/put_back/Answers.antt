@@ -11,6 +11,7 @@ returns c =
       put = put-back d i x (c .pre .low .0) (c .pre .low .1) (c .pre .sized) (c .pre .was);
       sized = back-sized d i x (c .pre .low .0) (c .pre .low .1) (c .pre .sized);
       clock = refl;
+      why = refl;
       more = back-total d i x (c .pre .low .0) (c .pre .low .1) (c .pre .sized) (c .pre .was);
       others = sets-others d i x (c .pre .low .0) (c .pre .low .1) (c .pre .sized) _;
     }
