@@ -44,7 +44,7 @@ module _ (c : Constraints) (p : ℕ) (shape : Shape c) (low : p < 128) (present 
   fits-right x y = cond-false (eqb (leftOf c p) (rightOf c p)) _ _ private-apart
 
   -- a constraint ties its two ends and no other variable
-  ends-of : (i : ℕ) → arcsOf c .on i p ≡ true → (i ≡ leftOf c p) ⊎ (i ≡ rightOf c p)
+  pub ends-of : (i : ℕ) → arcsOf c .on i p ≡ true → (i ≡ leftOf c p) ⊎ (i ≡ rightOf c p)
   ends-of i h =
       let a : (isPresent c p && (eqb (leftOf c p) i || eqb (rightOf c p) i)) ≡ true = and-parts (ltb p 128) _ h .1 in
       ⊎-elim (λ e. inl (sym (eqb-true (leftOf c p) i e))) (λ e. inr (sym (eqb-true (rightOf c p) i e)))

@@ -56,7 +56,7 @@ kept-trans q q′ q″ a b =
       same = b .same ∙ a .same;
       limit = b .limit ∙ a .limit;
       long = b .long ∙ a .long;
-      rest = ap (λ n. drop n (q″ .room .now)) (sym (a .limit)) ∙ b .rest ∙ ap (λ n. drop n (q′ .room .now)) (a .limit) ∙ a .rest
+      rest = ap (λ n. drop n (q″ .room .now)) (sym (a .limit)) ∙ b .rest ∙ ap (λ n. drop n (q′ .room .now)) (a .limit) ∙ a .rest;
     }
 
 pub grew-refl : (d : Domains) (q : Queue Returning) → Grew d d q q
@@ -71,32 +71,32 @@ grew-trans d d′ d″ q q′ q″ a b =
       shown = λ i x h. b .shown i x (a .shown i x h);
       more = omega (arith, a .more, b .more);
       even = omega (arith, a .even, b .even);
-      kept = kept-trans q q′ q″ (a .kept) (b .kept)
+      kept = kept-trans q q′ q″ (a .kept) (b .kept);
     }
 
 -- one value came back
 module _ (c : Constraints) (d d′ : Domains) (q q′ : Queue Returning) (i x t : ℕ) (put : PutBack (standing d) (standing d′) i x) (sized : Sized d′) (why : d′ .why ≡ d .why) (more : total (d′ .sets) ≡ total (d .sets) + 1) (waiting : waits q′ ≡ waits q ++ (record { variable = i; value = x; time = t } ∷ [])) (len : q′ .len ≡ q .len + 1) (kept : Kept q q′) where
   pub roomy-free : i < 32 → x < 64 → within c i x ≡ true → Roomy c d q → Roomy c d′ q′
   roomy-free il xl inside r =
-    record {
-      sized = sized;
-      inside = λ j y h. ⊎-elim (λ o. r .inside j y o) (λ e. rw (← (e .0), ← (e .1)) inside) (back-cases d d′ i x put j y h);
-      limit = kept .limit ∙ r .limit;
-      few = omega (arith, r .few, more, len);
-      low = let P : List Returning → Type 0 = λ w. Low w in subst P (sym waiting) (low-push (waits q) (record { variable = i; value = x; time = t }) (r .low) il xl)
-    }
+      record {
+        sized = sized;
+        inside = λ j y h. ⊎-elim (λ o. r .inside j y o) (λ e. rw (← (e .0), ← (e .1)) inside) (back-cases d d′ i x put j y h);
+        limit = kept .limit ∙ r .limit;
+        few = omega (arith, r .few, more, len);
+        low = let P : List Returning → Type 0 = λ w. Low w in subst P (sym waiting) (low-push (waits q) (record { variable = i; value = x; time = t }) (r .low) il xl);
+      }
 
   pub grew-free : d′ .clock ≡ d .clock → Grew d d′ q q′
   grew-free clock =
-    record { clock = clock; why = why; shown = back-grows d d′ i x put; more = omega (arith, more); even = omega (arith, more, len); kept = kept }
+      record { clock = clock; why = why; shown = back-grows d d′ i x put; more = omega (arith, more); even = omega (arith, more, len); kept = kept }
 
   pub frees-free : (p : ℕ) (d₀ : Domains) (first : List Returning) → within c i x ≡ true → shown d i x ≡ false → (Out (within c) (standing d₀) i x → standing d₀ .reason i x ≡ standing d .reason i x → Rests (arcsOf c) (within c) (standing d₀) (reasonIs p) i x) → Releasing c p d₀ d (first ++ waits q) → Releasing c p d₀ d′ (first ++ waits q′)
   frees-free p d₀ first inside gone rests r =
-    let P : List Returning → Type 0 = λ w. Releasing c p d₀ d′ w in
-    let e : Returning = record { variable = i; value = x; time = t } in
-    let out : Out (within c) (standing d₀) i x = was-out c p d₀ d (first ++ waits q) i x r inside gone in
-    let same : standing d₀ .reason i x ≡ standing d .reason i x = ap (λ (j : Justifications). entry (j .reasons) i x) (sym (r .why)) in
-    subst P (append-assoc first (waits q) (e ∷ []) ∙ ap (λ w. first ++ w) (sym waiting))
+      let P : List Returning → Type 0 = λ w. Releasing c p d₀ d′ w in
+      let e : Returning = record { variable = i; value = x; time = t } in
+      let out : Out (within c) (standing d₀) i x = was-out c p d₀ d (first ++ waits q) i x r inside gone in
+      let same : standing d₀ .reason i x ≡ standing d .reason i x = ap (λ (j : Justifications). entry (j .reasons) i x) (sym (r .why)) in
+      subst P (append-assoc first (waits q) (e ∷ []) ∙ ap (λ w. first ++ w) (sym waiting))
       (releasing-free c p d₀ d d′ (first ++ waits q) e i x r put refl refl why out (rests out same))
 
 -- on the way through the values of a variable
@@ -117,12 +117,12 @@ among-skip c d d′ q q′ i p among x here a =
 module _ (c : Constraints) (d d′ d″ : Domains) (q q′ q″ : Queue Returning) (i p among x t : ℕ) (put : PutBack (standing d′) (standing d″) i x) (sized : Sized d″) (why : d″ .why ≡ d′ .why) (more : total (d″ .sets) ≡ total (d′ .sets) + 1) (waiting : waits q″ ≡ waits q′ ++ (record { variable = i; value = x; time = t } ∷ [])) (len : q″ .len ≡ q′ .len + 1) (kept : Kept q′ q″) where
   pub among-free : i < 32 → x < 64 → within c i x ≡ true → hasBit among x ≡ true → shown d′ i x ≡ false → entry (d′ .why .reasons) i x ≡ p → d″ .clock ≡ d′ .clock → Among c d d′ q q′ i p among x → Among c d d″ q q″ i p among (x + 1)
   among-free il xl inside has gone names clock a =
-    record {
-      roomy = roomy-free c d′ d″ q′ q″ i x t put sized why more waiting len kept il xl inside (a .roomy);
-      grew = grew-trans d d′ d″ q q′ q″ (a .grew) (grew-free c d′ d″ q′ q″ i x t put sized why more waiting len kept clock);
-      frees = λ r d₀ first rest rel.
-        frees-free c d′ d″ q′ q″ i x t put sized why more waiting len kept r d₀ first inside gone (λ o e. rest x o (e ∙ names) has) (a .frees r d₀ first rest rel);
-      below = below-more _ x
-        (λ k h b e. back-grows d′ d″ i x put i k (a .below k h b (ap (λ (j : Justifications). entry (j .reasons) i k) (sym why) ∙ e)))
-        (λ _ _. put .back)
-    }
+      record {
+        roomy = roomy-free c d′ d″ q′ q″ i x t put sized why more waiting len kept il xl inside (a .roomy);
+        grew = grew-trans d d′ d″ q q′ q″ (a .grew) (grew-free c d′ d″ q′ q″ i x t put sized why more waiting len kept clock);
+        frees = λ r d₀ first rest rel.
+            frees-free c d′ d″ q′ q″ i x t put sized why more waiting len kept r d₀ first inside gone (λ o e. rest x o (e ∙ names) has) (a .frees r d₀ first rest rel);
+        below = below-more _ x
+            (λ k h b e. back-grows d′ d″ i x put i k (a .below k h b (ap (λ (j : Justifications). entry (j .reasons) i k) (sym why) ∙ e)))
+            (λ _ _. put .back);
+      }

@@ -20,11 +20,11 @@ returns c =
     let i = c .args .variable in
     let x = c .args .value in
     let fits : c .push .result ≡ true =
-          c .push .ensures .fits
-          ∙ lt-ltb (q .len) (q .limit) (some-room d d′ (q .len) (q .limit) (c .put-back .ensures .sized) (c .pre .limit) (c .pre .few) (c .put-back .ensures .more))
+    c .push .ensures .fits
+    ∙ lt-ltb (q .len) (q .limit) (some-room d d′ (q .len) (q .limit) (c .put-back .ensures .sized) (c .pre .limit) (c .pre .few) (c .put-back .ensures .more))
     in
     let time : getD (d′ .why .times) (64 * i + x) 0 ≡ entry (d .why .times) i x =
-          ap (λ (j : Justifications). getD (j .times) (64 * i + x) 0) (c .put-back .ensures .why) ∙ sym (entry-read (d .why .times) i x (c .pre .low .1))
+    ap (λ (j : Justifications). getD (j .times) (64 * i + x) 0) (c .put-back .ensures .why) ∙ sym (entry-read (d .why .times) i x (c .pre .low .1))
     in
     record {
       put = c .put-back .ensures .put;
@@ -33,8 +33,8 @@ returns c =
       why = c .put-back .ensures .why;
       more = c .put-back .ensures .more;
       waiting =
-        c .push .ensures .waiting ∙ cond-true (c .push .result) _ _ fits
-        ∙ ap (λ (t : ℕ). waits q ++ (record { variable = i; value = x; time = t } ∷ [])) time;
+          c .push .ensures .waiting ∙ cond-true (c .push .result) _ _ fits
+          ∙ ap (λ (t : ℕ). waits q ++ (record { variable = i; value = x; time = t } ∷ [])) time;
       len = c .push .ensures .len ∙ cond-true (c .push .result) _ _ fits;
-      kept = c .push .ensures .kept
+      kept = c .push .ensures .kept;
     }

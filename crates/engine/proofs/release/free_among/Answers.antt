@@ -22,7 +22,7 @@ free-requires c κs =
       sized = c .loop-x .inv .roomy .sized;
       was = yes .0;
       limit = c .loop-x .inv .roomy .limit;
-      few = c .loop-x .inv .roomy .few
+      few = c .loop-x .inv .roomy .few;
     }
 
 pub loop-x-again : need.loop-x-again
@@ -36,17 +36,17 @@ loop-x-again c =
     let x = c .loop-x .x in
     let P : Domains → Queue Returning → Type 0 = λ e r. Among n d e q r i p s (x + 1) in
     elim (c .if-has .came) [
-      then-has·then-names w ↦
-        subst₂ P (sym (w .d-is)) (sym (w .q-is))
+      | then-has·then-names w ↦
+          subst₂ P (sym (w .d-is)) (sym (w .q-is))
           (among-free n d (c .loop-x .d) (w .free .last .d) q (c .loop-x .q) (w .free .last .q) i p s x _
-            (w .free .ensures .put) (w .free .ensures .sized) (w .free .ensures .why) (w .free .ensures .more) (w .free .ensures .waiting) (w .free .ensures .len) (w .free .ensures .kept)
-            (c .pre .low) (omega (arith, c .pre .shape .small i)) (lt-ltb x _ (c .loop-x-test .taken)) (sym (w .if-has .ensures tt))
-            (names-yes _ _ _ (w .if-names .ensures tt) .0) (names-yes _ _ _ (w .if-names .ensures tt) .1) (w .free .ensures .clock) (c .loop-x .inv))
-    | then-has·else-names w ↦
-        subst₂ P (sym (w .d-is)) (sym (w .q-is))
+          (w .free .ensures .put) (w .free .ensures .sized) (w .free .ensures .why) (w .free .ensures .more) (w .free .ensures .waiting) (w .free .ensures .len) (w .free .ensures .kept)
+          (c .pre .low) (omega (arith, c .pre .shape .small i)) (lt-ltb x _ (c .loop-x-test .taken)) (sym (w .if-has .ensures tt))
+          (names-yes _ _ _ (w .if-names .ensures tt) .0) (names-yes _ _ _ (w .if-names .ensures tt) .1) (w .free .ensures .clock) (c .loop-x .inv))
+      | then-has·else-names w ↦
+          subst₂ P (sym (w .d-is)) (sym (w .q-is))
           (among-skip n d (c .loop-x .d) q (c .loop-x .q) i p s x (λ _ e. names-no _ _ _ (w .if-names .ensures tt) e) (c .loop-x .inv))
-    | else-has w ↦
-        subst₂ P (sym (w .d-is)) (sym (w .q-is))
+      | else-has w ↦
+          subst₂ P (sym (w .d-is)) (sym (w .q-is))
           (among-skip n d (c .loop-x .d) q (c .loop-x .q) i p s x (λ h _. absurd (both-ways _ (sym (w .if-has .ensures tt)) h)) (c .loop-x .inv))
     ]
 
@@ -57,5 +57,5 @@ returns c =
       grew = c .loop-x .inv .grew;
       frees = c .loop-x .inv .frees;
       freed = λ k inside has names.
-        c .loop-x .inv .below k (omega (arith, ltb-true k _ inside, c .loop-x-test .left)) has names
+          c .loop-x .inv .below k (omega (arith, ltb-true k _ inside, c .loop-x-test .left)) has names;
     }
