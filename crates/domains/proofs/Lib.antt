@@ -4,3 +4,4 @@ pub mod Facing
 pub mod Revise
 pub mod Settle
 pub mod Release
+pub mod Props
