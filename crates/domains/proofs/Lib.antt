@@ -5,3 +5,4 @@ pub mod Revise
 pub mod Settle
 pub mod Release
 pub mod Props
+pub mod Change

@@ -1,4 +1,5 @@
 // Incremental arc consistency with justifications, on plain data.
+mod change;
 mod propagate;
 mod release;
 mod revise;
