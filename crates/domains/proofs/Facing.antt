@@ -118,3 +118,9 @@ on-at-far c i p shape h =
     (λ e. rw e (rw (far-left c p shape low pr) (on-right c p shape low pr)))
     (λ e. rw e (rw (far-right c p shape low pr) (on-left c p shape low pr)))
     (ends-of c p shape low pr i h)
+
+-- a constraint ties variables below 32
+pub tied-low : (c : Constraints) (i p : ℕ) → Shape c → arcsOf c .on i p ≡ true → i < 32
+tied-low c i p shape on =
+    ⊎-elim (λ e. omega (arith, e, shape .left-low p)) (λ e. omega (arith, e, shape .right-low p))
+    (ends-of c p shape (on-low c i p on) (on-present c i p on) i on)

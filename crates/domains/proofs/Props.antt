@@ -32,7 +32,7 @@ arrays-prop c x y i =
       present = ℕ-set _ _ (x .present) (y .present) i;
       left = ℕ-set _ _ (x .left) (y .left) i;
       right = ℕ-set _ _ (x .right) (y .right) i;
-      rows = ℕ-set _ _ (x .rows) (y .rows) i
+      rows = ℕ-set _ _ (x .rows) (y .rows) i;
     }
 
 pub shape-prop : (c : Constraints) → IsProp (Shape c)
@@ -43,7 +43,7 @@ shape-prop c x y i =
       left-low = Π-prop (λ _. le) (x .left-low) (y .left-low) i;
       right-low = Π-prop (λ _. le) (x .right-low) (y .right-low) i;
       apart = Π-prop (λ _. Π-prop (λ _. Π-prop (λ _. ⊥-prop))) (x .apart) (y .apart) i;
-      mirror = Π-prop (λ _. Π-prop (λ _. Π-prop (λ _. Π-prop (λ _. Π-prop (λ _. Π-prop (λ _. Bool-set _ _)))))) (x .mirror) (y .mirror) i
+      mirror = Π-prop (λ _. Π-prop (λ _. Π-prop (λ _. Π-prop (λ _. Π-prop (λ _. Π-prop (λ _. Bool-set _ _)))))) (x .mirror) (y .mirror) i;
     }
 
 sized-prop : (d : Domains) → IsProp (Sized d)
@@ -52,7 +52,7 @@ sized-prop d x y i =
       sets = ℕ-set _ _ (x .sets) (y .sets) i;
       reasons = ℕ-set _ _ (x .reasons) (y .reasons) i;
       times = ℕ-set _ _ (x .times) (y .times) i;
-      wide = Π-prop (λ _. le) (x .wide) (y .wide) i
+      wide = Π-prop (λ _. le) (x .wide) (y .wide) i;
     }
 
 accounts-prop : (c : Constraints) (s : Standing) (i x r t : ℕ) → IsProp (Accounts (arcsOf c) (within c) s i x r t)
@@ -60,7 +60,7 @@ accounts-prop c s i x r t a b k =
     record {
       on = Bool-set _ _ (a .on) (b .on) k;
       gone = Π-prop (λ _. Π-prop (λ _. Π-prop (λ _. Bool-set _ _))) (a .gone) (b .gone) k;
-      before = Π-prop (λ _. Π-prop (λ _. Π-prop (λ _. le))) (a .before) (b .before) k
+      before = Π-prop (λ _. Π-prop (λ _. Π-prop (λ _. le))) (a .before) (b .before) k;
     }
 
 timed-prop : (b : Family) (s : Standing) (clock : ℕ) → IsProp (Timed b s clock)
@@ -68,7 +68,7 @@ timed-prop b s clock x y i =
     record {
       below = Π-prop (λ _. Π-prop (λ _. Π-prop (λ _. le))) (x .below) (y .below) i;
       apart =
-        Π-prop (λ _. Π-prop (λ _. Π-prop (λ _. Π-prop (λ _. Π-prop (λ _. Π-prop (λ _. Π-prop (λ _. ×-prop (ℕ-set _ _) (ℕ-set _ _)))))))) (x .apart) (y .apart) i
+          Π-prop (λ _. Π-prop (λ _. Π-prop (λ _. Π-prop (λ _. Π-prop (λ _. Π-prop (λ _. Π-prop (λ _. ×-prop (ℕ-set _ _) (ℕ-set _ _)))))))) (x .apart) (y .apart) i;
     }
 
 pub sound-prop : (c : Constraints) (d : Domains) → IsProp (Sound c d)
@@ -77,7 +77,7 @@ sound-prop c d x y i =
       sized = sized-prop d (x .sized) (y .sized) i;
       inside = Π-prop (λ _. Π-prop (λ _. Π-prop (λ _. Bool-set _ _))) (x .inside) (y .inside) i;
       justified = Π-prop (λ j. Π-prop (λ z. Π-prop (λ _. accounts-prop c (standing d) j z _ _))) (x .justified) (y .justified) i;
-      timed = timed-prop (within c) (standing d) (d .clock) (x .timed) (y .timed) i
+      timed = timed-prop (within c) (standing d) (d .clock) (x .timed) (y .timed) i;
     }
 
 -- a support that cannot be wanting is found
@@ -88,9 +88,9 @@ find-support c d shape sized i r x on low some =
     let n : ℕ = bitAnd (getD (d .sets) (s .arc .far) 0) (getD (c .rows) (s .arc .rows + x) 0) in
     subst₂ P (s .near) (s .constraint)
     (⊎-elim
-      (λ z. absurd (some (λ h. support-no c d (s .arc) (s .facing) sized x low z (subst₂ P (sym (s .near)) (sym (s .constraint)) h))))
-      (λ nz. support-yes c d (s .arc) (s .facing) sized x low (omega arith))
-      (cases-eq n 0))
+    (λ z. absurd (some (λ h. support-no c d (s .arc) (s .facing) sized x low z (subst₂ P (sym (s .near)) (sym (s .constraint)) h))))
+    (λ nz. support-yes c d (s .arc) (s .facing) sized x low (omega arith))
+    (cases-eq n 0))
 
 pub stands-out : (c : Constraints) (d : Domains) → ∥ Stands c d ∥₁ → Stands c d
 stands-out c d t =
@@ -100,8 +100,8 @@ stands-out c d t =
       shape = shape;
       sound = sound;
       consistent = λ i r x on h.
-        find-support c d shape (sound .sized) i r x on (has-low 64 (getD (d .sets) i 0) x (sound .sized .wide i) h)
-        (λ no. ∥∥₁-elim t ⊥-prop (λ s. no (s .consistent i r x on h)))
+          find-support c d shape (sound .sized) i r x on (has-low 64 (getD (d .sets) i 0) x (sound .sized .wide i) h)
+          (λ no. ∥∥₁-elim t ⊥-prop (λ s. no (s .consistent i r x on h)));
     }
 
 -- what stands rightly is largest
