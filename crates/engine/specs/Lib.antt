@@ -1,0 +1,3 @@
+pub mod Queued
+pub mod Returns
+pub mod Calls
