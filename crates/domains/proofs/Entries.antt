@@ -1,0 +1,43 @@
+-- One entry of an array is written: what is read then, and how many values the sets have.
+use mathlib.Core.Path.{_≡_, refl, sym, ap, _∙_}
+use mathlib.Core.Bool.{Bool, true, false, cond}
+use mathlib.Core.List.{List, [], _∷_}
+use mathlib.Core.Logic.{⊎-elim, _≢_}
+use Prim.Native.Nat.{ℕ, zero, suc, _+_, _*_, _<_, _≤_, _^_}
+use native.Mathlib.Omega.{arith}
+use native.Mathlib.Nat.{add-assoc, add-comm}
+use lib.Count.{ones, ones-le}
+use lib.Dec.{ltb, eqb}
+use lib.ListN.{length, getD, set}
+use Rattle.std.proofs.shelf.Lists.{getD-set-same, getD-set-other}
+use Rattle.std.proofs.shelf.Tests.{cases-lt, cases-eq, lt-ltb, le-ltb, cond-true, cond-false}
+use Rattle.domains.specs.Model.{entry, total}
+
+pub entry-same : (xs : List ℕ) (i x v : ℕ) → x < 64 → 64 * i + x < length xs → entry (set xs (64 * i + x) v) i x ≡ v
+unfolding entry
+entry-same xs i x v h l = cond-true (ltb x 64) _ 0 (lt-ltb x 64 h) ∙ getD-set-same xs (64 * i + x) v 0 l
+
+pub entry-other : (xs : List ℕ) (i x v j y : ℕ) → x < 64 → ((i ≡ j) × (x ≡ y) → ⊥) → entry (set xs (64 * i + x) v) j y ≡ entry xs j y
+unfolding entry
+entry-other xs i x v j y h ne =
+    ⊎-elim
+    (λ l. let apart : 64 * j + y ≢ 64 * i + x = λ e. ne (omega arith, omega arith) in
+    ap (λ n. cond (ltb y 64) n 0) (getD-set-other xs (64 * i + x) (64 * j + y) v 0 apart))
+    (λ l. cond-false (ltb y 64) _ 0 (le-ltb y 64 l) ∙ sym (cond-false (ltb y 64) _ 0 (le-ltb y 64 l)))
+    (cases-lt y 64)
+
+-- a set in the place of another
+pub total-set : (ds : List ℕ) (i d : ℕ) → i < length ds → total (set ds i d) + ones (getD ds i 0) ≡ total ds + ones d
+total-set [] i d h = absurd (omega arith)
+total-set (e ∷ ds) zero d h = omega arith
+total-set (e ∷ ds) (suc i) d h = omega (arith, total-set ds i d (omega arith))
+
+-- at most 64 values in each set
+pub total-few : (ds : List ℕ) → ((i : ℕ) → getD ds i 0 < 2 ^ 64) → total ds ≤ 64 * length ds
+total-few [] h = omega arith
+total-few (d ∷ ds) h = omega (arith, ones-le 64 d (h 0), total-few ds (λ i. h (suc i)))
+
+-- what stands in the array
+pub entry-read : (xs : List ℕ) (i x : ℕ) → x < 64 → entry xs i x ≡ getD xs (64 * i + x) 0
+unfolding entry
+entry-read xs i x h = cond-true (ltb x 64) _ 0 (lt-ltb x 64 h)

@@ -1,0 +1,4 @@
+pub mod Model
+pub mod Sound
+pub mod Releasing
+pub mod Stands

@@ -1,0 +1,4 @@
+pub mod Marks
+pub mod Start
+pub mod Frees
+pub mod Beside
