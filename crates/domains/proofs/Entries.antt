@@ -1,16 +1,19 @@
 -- One entry of an array is written: what is read then, and how many values the sets have.
 use mathlib.Core.Path.{_≡_, refl, sym, ap, _∙_}
 use mathlib.Core.Bool.{Bool, true, false, cond}
-use mathlib.Core.List.{List, [], _∷_}
+use mathlib.Core.List.{List, [], _∷_, _++_}
 use mathlib.Core.Logic.{⊎-elim, _≢_}
 use Prim.Native.Nat.{ℕ, zero, suc, _+_, _*_, _<_, _≤_, _^_}
 use native.Mathlib.Omega.{arith}
 use native.Mathlib.Nat.{add-assoc, add-comm}
 use lib.Count.{ones, ones-le}
 use lib.Dec.{ltb, eqb}
-use lib.ListN.{length, getD, set}
-use Rattle.std.proofs.shelf.Lists.{getD-set-same, getD-set-other}
-use Rattle.std.proofs.shelf.Tests.{cases-lt, cases-eq, lt-ltb, le-ltb, cond-true, cond-false}
+use lib.ListN.{length, getD, set, take}
+use Rattle.std.proofs.shelf.Lists.{getD-set-same, getD-set-other, take-more, take-all}
+use Rattle.std.proofs.shelf.Tests.{cases-lt, cases-eq, lt-ltb, le-ltb, cond-true, cond-false, eq-eqb, eqb-true}
+use Rattle.bits.specs.Bits.{bitAt, hasBit, domainsOf}
+use Rattle.bits.proofs.Bitwise.{bit-cases}
+use Rattle.bits.proofs.Edits.{ones-inside}
 use Rattle.domains.specs.Model.{entry, total}
 
 pub entry-same : (xs : List ℕ) (i x v : ℕ) → x < 64 → 64 * i + x < length xs → entry (set xs (64 * i + x) v) i x ≡ v
@@ -41,3 +44,30 @@ total-few (d ∷ ds) h = omega (arith, ones-le 64 d (h 0), total-few ds (λ i. h
 pub entry-read : (xs : List ℕ) (i x : ℕ) → x < 64 → entry xs i x ≡ getD xs (64 * i + x) 0
 unfolding entry
 entry-read xs i x h = cond-true (ltb x 64) _ 0 (lt-ltb x 64 h)
+
+total-append : (xs ys : List ℕ) → total (xs ++ ys) ≡ total xs + total ys
+total-append [] ys = omega arith
+total-append (x ∷ xs) ys = omega (arith, total-append xs ys)
+
+pub total-take : (ds : List ℕ) (i : ℕ) → i < length ds → total (take (i + 1) ds) ≡ total (take i ds) + ones (getD ds i 0)
+total-take ds i h =
+    ap total (take-more ds i 0 h) ∙ total-append (take i ds) (getD ds i 0 ∷ []) ∙ omega arith
+
+pub total-all : (ds : List ℕ) (n : ℕ) → length ds ≤ n → total (take n ds) ≡ total ds
+total-all ds n h = ap total (take-all n ds h)
+
+-- sets inside others have no more values
+bit-inside : (a b x : ℕ) → (hasBit a x ≡ true → hasBit b x ≡ true) → bitAt a x ≤ bitAt b x
+bit-inside a b x h =
+    ⊎-elim (λ z. omega arith)
+    (λ e. omega (arith, eqb-true (bitAt b x) 1 (h (eq-eqb (bitAt a x) 1 e))))
+    (bit-cases a x)
+
+pub total-inside : (us bs : List ℕ) → length us ≡ length bs → ((i : ℕ) → getD us i 0 < 2 ^ 64) → ((i : ℕ) → getD bs i 0 < 2 ^ 64) → ((i x : ℕ) → domainsOf us i x ≡ true → domainsOf bs i x ≡ true) → total us ≤ total bs
+total-inside [] bs e wa wb h = omega arith
+total-inside (a ∷ us) [] e wa wb h = absurd (omega arith)
+total-inside (a ∷ us) (b ∷ bs) e wa wb h =
+    let f : length us ≡ length bs = omega arith in
+    let one : ones a ≤ ones b = ones-inside 64 a b (wa 0) (wb 0) (λ x. bit-inside a b x (h 0 x)) in
+    let rest : total us ≤ total bs = total-inside us bs f (λ i. wa (suc i)) (λ i. wb (suc i)) (λ i x. h (suc i) x) in
+    omega arith

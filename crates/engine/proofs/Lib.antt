@@ -1,4 +1,5 @@
 pub mod Marks
 pub mod Start
+pub mod Called
 pub mod Frees
 pub mod Beside

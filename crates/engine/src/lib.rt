@@ -3,4 +3,7 @@ mod change;
 mod propagate;
 mod release;
 mod revise;
+mod state;
 mod values;
+
+pub use state::Engine;
