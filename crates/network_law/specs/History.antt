@@ -1,0 +1,15 @@
+-- Lists of calls, with the list of their answers.
+use mathlib.Core.Path.{_≡_}
+use mathlib.Core.List.{List, [], _∷_}
+use Rattle.catalog.specs.Meaning.{Meaning}
+use Rattle.network_law.specs.declared.Answer.{Answer}
+use Rattle.network_law.specs.Moment.{Moment}
+use Rattle.network_law.specs.Calls.{Call}
+use Rattle.network_law.specs.Step.{Step}
+
+-- From the moment s these calls, one after another, with these answers, lead to the moment t.
+abbrev pub History : Meaning → Moment → List Call → List Answer → Moment → Type 0
+History m s [] [] t = t ≡ s
+History m s [] (a ∷ answers) t = ⊥
+History m s (k ∷ calls) [] t = ⊥
+History m s (k ∷ calls) (a ∷ answers) t = (u : Moment) × Step m s k a u × History m u calls answers t
