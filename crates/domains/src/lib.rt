@@ -1,5 +1,13 @@
 // The plain data of the propagation engine: constraints with their rows of supports, and domains with their justifications.
 
+mod make;
+
+pub use make::capped;
+pub use make::full;
+pub use make::no_constraints;
+pub use make::no_domains;
+pub use make::transposed;
+
 // The justification of the value x of the variable i stands at 64 * i + x: a constraint and a time.
 #[derive(Drop)]
 pub struct Justifications {
