@@ -1,18 +1,22 @@
 -- What the tests before a call give, and what a call leaves.
-use mathlib.Core.Path.{_≡_, refl, sym, ap, _∙_}
-use mathlib.Core.Bool.{Bool, true, false, not, _&&_}
-use Prim.Native.Nat.{ℕ, _+_, _<_, _≤_}
+use mathlib.Core.Path.{_≡_, refl, sym, ap, subst, _∙_}
+use mathlib.Core.Bool.{Bool, true, false, cond, not, _&&_}
+use mathlib.Core.List.{List}
+use Prim.Native.Nat.{ℕ, _+_, _<_, _≤_, _^_, min}
 use native.Mathlib.Omega.{arith}
 use lib.Dec.{ltb, eqb}
+use lib.ListN.{length, getD, replicate}
 use Rattle.std.proofs.shelf.Tests.{and-parts, not-true, ltb-true, ltb-false, eqb-false}
 use Rattle.arcs.specs.Family.{Inside}
+use Rattle.bits.specs.Bits.{domainsOf}
 use Rattle.domains.specs.declared.Constraints.{Constraints}
 use Rattle.domains.specs.declared.Domains.{Domains}
 use Rattle.domains.specs.Model.{isPresent, leftOf, rightOf, shown, total}
 use Rattle.domains.specs.Stands.{Stands}
 use Rattle.domains.proofs.Entries.{total-inside}
 use Rattle.domains.proofs.Props.{stands-largest}
-use Rattle.engine.specs.Calls.{canAdd, canRetract, Right}
+use Rattle.domains.proofs.Setup.{all-shown, none-at, refilled, sizes-small, stands-open}
+use Rattle.engine.specs.Calls.{canAdd, canLoad, canRetract, Opened, Right}
 
 pub record Addable (c : Constraints) (d : Domains) (p room : ℕ) : Type 0 where
   pub low : p < 128
@@ -59,3 +63,48 @@ right-now c d s = record { largest = stands-largest c d s; justified = s .sound 
 pub more-shown : (c c′ : Constraints) (d d′ : Domains) → Stands c d → Stands c′ d′ → Inside (shown d′) (shown d) → total (d .sets) ≤ total (d′ .sets)
 more-shown c c′ d d′ s s′ grew =
     total-inside (d .sets) (d′ .sets) (s .sound .sized .sets ∙ sym (s′ .sound .sized .sets)) (s .sound .sized .wide) (s′ .sound .sized .wide) grew
+
+-- an opening
+module _ (c : Constraints) (d : Domains) (given sizes sets : List ℕ) (marks : List Bool) (clock : ℕ) (stands : Stands c d) (none : marks ≡ replicate 128 false) (long : length sizes ≡ 32) (capped : (i : ℕ) → getD sizes i 0 ≡ cond (ltb i 32) (min 64 (getD given i 0)) 0) (wide : (i : ℕ) → getD sets i 0 < 2 ^ 64) (many : length sets ≡ 32) (full : (i x : ℕ) → i < 32 → domainsOf sets i x ≡ (ltb x (getD sizes i 0) && ltb x 64)) where
+  abbrev pub afresh : Constraints
+  afresh = record { sizes = sizes; present = marks; left = c .left; right = c .right; rows = c .rows }
+
+  pub afresh-stands : Stands afresh (refilled d sets clock)
+  afresh-stands =
+      subst (λ m. Stands (record { sizes = sizes; present = m; left = c .left; right = c .right; rows = c .rows }) (refilled d sets clock)) (sym none)
+      (stands-open c d sizes sets clock stands long (sizes-small sizes given capped) wide many full)
+
+  pub afresh-opened : Opened c afresh (refilled d sets clock) given clock
+  afresh-opened =
+      record {
+        sizes = capped;
+        none = λ p. ap (λ m. getD m p false) none ∙ none-at 128 p;
+        left = refl;
+        right = refl;
+        rows = refl;
+        all = all-shown c d sizes sets clock stands long (sizes-small sizes given capped) wide many full;
+        clock = refl;
+        stands = right-now afresh (refilled d sets clock) afresh-stands;
+      }
+
+-- a constraint may be loaded
+pub record Loadable (c : Constraints) (p left right : ℕ) : Type 0 where
+  pub low : p < 128
+  pub absent : isPresent c p ≡ false
+  pub left-low : left < 32
+  pub right-low : right < 32
+  pub apart : left ≡ right → ⊥
+
+pub loadable : (c : Constraints) (p left right : ℕ) → true ≡ canLoad c p left right → Loadable c p left right
+loadable c p left right e =
+    let a = and-parts (ltb p 128) _ (sym e) in
+    let b = and-parts (not (isPresent c p)) _ (a .1) in
+    let f = and-parts (ltb left 32) _ (b .1) in
+    let g = and-parts (ltb right 32) _ (f .1) in
+    record {
+      low = ltb-true p 128 (a .0);
+      absent = not-true (isPresent c p) (b .0);
+      left-low = ltb-true left 32 (f .0);
+      right-low = ltb-true right 32 (g .0);
+      apart = eqb-false left right (not-true (eqb left right) (g .1));
+    }

@@ -3,6 +3,7 @@ use domains::Constraints;
 use domains::Domains;
 
 mod calls;
+mod setup;
 
 // Constraints and domains that stand rightly together: the domains are the largest under the constraints that are in, and every other
 // value has its justification.
