@@ -43,6 +43,13 @@ pub struct Arc {
     pub rows: usize,
 }
 
+// By which constraint a value is out, and since when.
+#[derive(Clone, Copy)]
+pub struct Justification {
+    pub constraint: usize,
+    pub time: u32,
+}
+
 // A value that came back, with the time of the justification that it had.
 #[derive(Clone, Copy)]
 pub struct Returning {

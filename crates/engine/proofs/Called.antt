@@ -2,21 +2,27 @@
 use mathlib.Core.Path.{_≡_, refl, sym, ap, subst, _∙_}
 use mathlib.Core.Bool.{Bool, true, false, cond, not, _&&_}
 use mathlib.Core.List.{List}
+use mathlib.Core.Logic.{⊎-elim}
 use Prim.Native.Nat.{ℕ, _+_, _<_, _≤_, _^_, min}
 use native.Mathlib.Omega.{arith}
 use lib.Dec.{ltb, eqb}
 use lib.ListN.{length, getD, replicate}
-use Rattle.std.proofs.shelf.Tests.{and-parts, not-true, ltb-true, ltb-false, eqb-false}
+use Rattle.std.proofs.shelf.Lists.{getD-past}
+use Rattle.std.proofs.shelf.Tests.{and-from, and-parts, cases-lt, cond-true, eq-eqb, eqb-false, lt-ltb, ltb-false, ltb-true, not-from-false, not-true}
 use Rattle.arcs.specs.Family.{Inside}
-use Rattle.bits.specs.Bits.{domainsOf}
+use Rattle.arcs.specs.WipedOut.{Empty, Shown}
+use Rattle.bits.specs.Bits.{bitAt, domainsOf, hasBit}
+use Rattle.bits.proofs.Bitwise.{bit-of-zero, some-bit}
 use Rattle.domains.specs.declared.Constraints.{Constraints}
+use Rattle.std.specs.declared.option.Option.the-variants.{Some, None}
 use Rattle.domains.specs.declared.Domains.{Domains}
-use Rattle.domains.specs.Model.{isPresent, leftOf, rightOf, shown, total}
+use Rattle.domains.specs.declared.Justification.{Justification}
+use Rattle.domains.specs.Model.{isPresent, leftOf, rightOf, shown, standing, total, within}
 use Rattle.domains.specs.Stands.{Stands}
 use Rattle.domains.proofs.Entries.{total-inside}
 use Rattle.domains.proofs.Props.{stands-largest}
 use Rattle.domains.proofs.Setup.{all-shown, none-at, refilled, sizes-small, stands-open}
-use Rattle.engine.specs.Calls.{canAdd, canLoad, canRetract, Opened, Right}
+use Rattle.engine.specs.Calls.{canAdd, canLoad, canRetract, justificationOf, Opened, Right}
 
 pub record Addable (c : Constraints) (d : Domains) (p room : ℕ) : Type 0 where
   pub low : p < 128
@@ -108,3 +114,24 @@ loadable c p left right e =
       right-low = ltb-true right 32 (g .0);
       apart = eqb-false left right (not-true (eqb left right) (g .1));
     }
+
+-- ---- asking
+
+pub asked-low : (c : Constraints) (d : Domains) (i x : ℕ) → Stands c d → x < getD (c .sizes) i 0 → i < 32
+asked-low c d i x s h =
+    ⊎-elim (λ l. l) (λ g. absurd (omega (arith, getD-past (c .sizes) i 0 (omega (arith, s .shape .arrays .sizes))))) (cases-lt i 32)
+
+pub justified-by : (c : Constraints) (d : Domains) (i x set : ℕ) (j : Justification) → x < getD (c .sizes) i 0 → set ≡ getD (d .sets) i 0 → false ≡ hasBit set x → j ≡ record { constraint = standing d .reason i x; time = standing d .time i x } → Some j ≡ justificationOf c d i x
+justified-by c d i x set j h e out is =
+    let gone : shown d i x ≡ false = ap (λ n. hasBit n x) (sym e) ∙ sym out in
+    ap Some is
+    ∙ sym (cond-true (within c i x && not (shown d i x)) _ None
+    (and-from (within c i x) (not (shown d i x)) (lt-ltb x (getD (c .sizes) i 0) h) (not-from-false (shown d i x) gone)))
+
+pub nothing-shown : (d : Domains) (i set : ℕ) → set ≡ getD (d .sets) i 0 → set ≡ 0 → Empty (shown d) i
+nothing-shown d i set e z x = ap (λ n. hasBit n x) (sym e ∙ z) ∙ ap (λ n. eqb n 1) (bit-of-zero x)
+
+pub something-shown : (d : Domains) (i set : ℕ) → set < 2 ^ 64 → set ≡ getD (d .sets) i 0 → (set ≡ 0 → ⊥) → Shown (shown d) i
+something-shown d i set w e nz =
+    let s : (x : ℕ) × (x < 64) × (bitAt set x ≡ 1) = some-bit 64 set w (omega arith) in
+    (s .0, ap (λ n. hasBit n (s .0)) (sym e) ∙ eq-eqb (bitAt set (s .0)) 1 (s .2))

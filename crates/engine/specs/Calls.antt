@@ -9,7 +9,10 @@ use Rattle.arcs.specs.Family.{Inside, Largest}
 use Rattle.justify.specs.Standing.{Out, Justified, Timed, Rests}
 use Rattle.justify.specs.Changes.{Same}
 use Rattle.domains.specs.declared.Constraints.{Constraints}
+use Rattle.std.specs.declared.option.Option.{Option}
+use Rattle.std.specs.declared.option.Option.the-variants.{Some, None}
 use Rattle.domains.specs.declared.Domains.{Domains}
+use Rattle.domains.specs.declared.Justification.{Justification}
 use Rattle.domains.specs.Model.{within, isPresent, leftOf, rightOf, arcsOf, shown, standing, total, reasonIs}
 use Rattle.domains.specs.Sound.{Went}
 use Rattle.domains.specs.Stands.{withPresent}
@@ -59,3 +62,7 @@ pub record Opened (c c′ : Constraints) (d′ : Domains) (given : List ℕ) (ti
   pub all : (i x : ℕ) → shown d′ i x ≡ within c′ i x
   pub clock : d′ .clock ≡ time
   pub stands : Right c′ d′
+
+-- the justification of a value that is out, or nothing
+abbrev pub justificationOf : Constraints → Domains → ℕ → ℕ → Option Justification
+justificationOf c d i x = cond (within c i x && not (shown d i x)) (Some (record { constraint = standing d .reason i x; time = standing d .time i x })) None

@@ -2,6 +2,7 @@ ghost use Rattle.domains.specs.Stands.{Stands};
 use domains::Constraints;
 use domains::Domains;
 
+mod asks;
 mod calls;
 mod setup;
 
