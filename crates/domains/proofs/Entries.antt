@@ -1,5 +1,5 @@
 -- One entry of an array is written: what is read then, and how many values the sets have.
-use mathlib.Core.Path.{_≡_, refl, sym, ap, _∙_}
+use mathlib.Core.Path.{_≡_, refl, sym, ap, subst, _∙_}
 use mathlib.Core.Bool.{Bool, true, false, cond}
 use mathlib.Core.List.{List, [], _∷_, _++_}
 use mathlib.Core.Logic.{⊎-elim, _≢_}
@@ -8,8 +8,8 @@ use native.Mathlib.Omega.{arith}
 use native.Mathlib.Nat.{add-assoc, add-comm}
 use lib.Count.{ones, ones-le}
 use lib.Dec.{ltb, eqb}
-use lib.ListN.{length, getD, set, take}
-use Rattle.std.proofs.shelf.Lists.{getD-set-same, getD-set-other, take-more, take-all}
+use lib.ListN.{length, getD, set, take, replicate}
+use Rattle.std.proofs.shelf.Lists.{getD-set-same, getD-set-other, getD-replicate, getD-past, length-replicate, take-more, take-all}
 use Rattle.std.proofs.shelf.Tests.{cases-lt, cases-eq, lt-ltb, le-ltb, cond-true, cond-false, eq-eqb, eqb-true}
 use Rattle.bits.specs.Bits.{bitAt, hasBit, domainsOf}
 use Rattle.bits.proofs.Bitwise.{bit-cases}
@@ -71,3 +71,20 @@ total-inside (a ∷ us) (b ∷ bs) e wa wb h =
     let one : ones a ≤ ones b = ones-inside 64 a b (wa 0) (wb 0) (λ x. bit-inside a b x (h 0 x)) in
     let rest : total us ≤ total bs = total-inside us bs f (λ i. wa (suc i)) (λ i. wb (suc i)) (λ i x. h (suc i) x) in
     omega arith
+
+-- zeros
+pub zero-at : (n k : ℕ) → getD {A = ℕ} (replicate n 0) k 0 ≡ 0
+zero-at n k =
+    ⊎-elim (λ l. getD-replicate n k 0 0 l) (λ g. getD-past (replicate n 0) k 0 (omega (arith, length-replicate {A = ℕ} n 0))) (cases-lt k n)
+
+-- one more entry is written
+pub set-step : (xs : List ℕ) (i v : ℕ) (P : ℕ → ℕ → Type 0) → i < length xs → ((k : ℕ) → k < i → P k (getD xs k 0)) → P i v → (k : ℕ) → k < i + 1 → P k (getD (set xs i v) k 0)
+set-step xs i v P l below here k h =
+    ⊎-elim
+    (λ e. subst (λ j. P j (getD (set xs i v) j 0)) (sym e) (subst (P i) (sym (getD-set-same xs i v 0 l)) here))
+    (λ ne. subst (P k) (sym (getD-set-other xs i k v 0 ne)) (below k (omega arith)))
+    (cases-eq k i)
+
+pub set-wide : (xs : List ℕ) (i v n : ℕ) → i < length xs → ((k : ℕ) → getD xs k 0 < n) → v < n → (k : ℕ) → getD (set xs i v) k 0 < n
+set-wide xs i v n l wide h k =
+    ⊎-elim (λ e. rw e (omega (arith, getD-set-same xs i v 0 l))) (λ ne. omega (arith, getD-set-other xs i k v 0 ne, wide k)) (cases-eq k i)

@@ -6,3 +6,4 @@ pub mod Settle
 pub mod Release
 pub mod Props
 pub mod Change
+pub mod Setup

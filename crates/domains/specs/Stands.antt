@@ -2,12 +2,13 @@
 use mathlib.Core.Path.{_≡_}
 use mathlib.Core.Bool.{Bool}
 use mathlib.Core.List.{List}
-use Prim.Native.Nat.{ℕ}
-use lib.ListN.{length, drop, set}
+use Prim.Native.Nat.{ℕ, _<_}
+use lib.ListN.{length, getD, drop, set}
 use Rattle.arcs.specs.Family.{Consistent}
 use Rattle.domains.specs.declared.Constraints.{Constraints}
 use Rattle.domains.specs.declared.Domains.{Domains}
-use Rattle.domains.specs.Model.{within, arcsOf, shown}
+use Rattle.bits.specs.Bits.{hasBit}
+use Rattle.domains.specs.Model.{arcsOf, leftOf, pairAt, rightOf, shown}
 use Rattle.domains.specs.Sound.{Shape, Sound}
 
 -- the shown values are consistent under the constraints that are in, and all others are justified
@@ -24,3 +25,14 @@ withPresent c p b = record { sizes = c .sizes; present = set (c .present) p b; l
 pub record Past {T : Type 0} (n : ℕ) (room room′ : List T) : Type 0 where
   pub long : length room′ ≡ length room
   pub rest : drop n room′ ≡ drop n room
+
+-- The constraint p, which is not in, has these ends and rows; all else is as it was.
+pub record Loaded (c c′ : Constraints) (p left right : ℕ) (rows : List ℕ) : Type 0 where
+  pub left-end : leftOf c′ p ≡ left
+  pub right-end : rightOf c′ p ≡ right
+  pub pairs : (x y : ℕ) → x < 64 → pairAt c′ p x y ≡ hasBit (getD rows x 0) y
+  pub left-others : (r : ℕ) → (r ≡ p → ⊥) → leftOf c′ r ≡ leftOf c r
+  pub right-others : (r : ℕ) → (r ≡ p → ⊥) → rightOf c′ r ≡ rightOf c r
+  pub pair-others : (r x y : ℕ) → (r ≡ p → ⊥) → pairAt c′ r x y ≡ pairAt c r x y
+  pub sizes : c′ .sizes ≡ c .sizes
+  pub present : c′ .present ≡ c .present

@@ -1,5 +1,13 @@
 // The plain data of the propagation engine: constraints with their rows of supports, and domains with their justifications.
 
+mod make;
+
+pub use make::capped;
+pub use make::full;
+pub use make::no_constraints;
+pub use make::no_domains;
+pub use make::transposed;
+
 // The justification of the value x of the variable i stands at 64 * i + x: a constraint and a time.
 #[derive(Drop)]
 pub struct Justifications {
@@ -33,6 +41,13 @@ pub struct Arc {
     pub near: usize,
     pub far: usize,
     pub rows: usize,
+}
+
+// By which constraint a value is out, and since when.
+#[derive(Clone, Copy)]
+pub struct Justification {
+    pub constraint: usize,
+    pub time: u32,
 }
 
 // A value that came back, with the time of the justification that it had.

@@ -20,7 +20,7 @@ use domains::Domains;
 use domains::Returning;
 use queue::Queue;
 
-fn unmarked() -> [bool; 128]
+pub(crate) fn unmarked() -> [bool; 128]
     ensures { λ r. ⌜ r ≡ replicate 128 false ⌝ }
 {
     [false; 128]
