@@ -31,7 +31,7 @@ afterConstraints s = joined framed (map moveRecord (s .moves) ++ (endRecord ∷ 
 abbrev pub fromConstraint : Sheet → ℕ → List ℕ
 fromConstraint s p = joined framed (map constraintRecord (drop p (s .constraints))) ++ afterConstraints s
 
-joined-append : {X A : Type 0} (f : X → List A) (xs ys : List X) → joined f (xs ++ ys) ≡ joined f xs ++ joined f ys
+pub joined-append : {X A : Type 0} (f : X → List A) (xs ys : List X) → joined f (xs ++ ys) ≡ joined f xs ++ joined f ys
 joined-append f [] ys = refl
 joined-append f (x ∷ xs) ys = ap (λ zs. f x ++ zs) (joined-append f xs ys) ∙ sym (append-assoc (f x) (joined f xs) (joined f ys))
 
