@@ -1,0 +1,3 @@
+pub mod Terms
+pub mod TableRows
+pub mod ReadBack

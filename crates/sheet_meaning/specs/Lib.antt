@@ -1,0 +1,3 @@
+pub mod Meant
+pub mod Begun
+pub mod Placed
