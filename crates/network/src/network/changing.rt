@@ -47,11 +47,14 @@ fn take_out(
     ensures past { λ _. ⌜ Past 128 (now (waiting .entry)) (now (waiting .exit)) ⌝ }
     ensures past_returning { λ _. ⌜ Past 2048 (now (returning .entry)) (now (returning .exit)) ⌝ }
 {
-    let Some(values) = state.engine.retract(constraint, waiting, returning) else {
+    let Some(returned) = state.engine.retract(constraint, waiting, returning) else {
         return Err(Refusal::NotIn);
     };
     let wiped = state.engine.wiped_out(state.variables);
-    Ok(Change { values, wiped })
+    Ok(Change {
+        values: returned,
+        wiped,
+    })
 }
 
 impl<C: Catalog> Network<C> {
