@@ -17,7 +17,7 @@ use Rattle.refusal.specs.declared.Refusal.{Refusal}
 use Rattle.network_law.specs.declared.Answer.{Answer}
 use Rattle.network_law.specs.declared.Answer.the-variants.{Opened, Changed, Domain, Shown, Justified, Wiped, Refused}
 use Rattle.network_law.specs.declared.Change.{Change}
-use Rattle.network_law.specs.declared.Justification.{Justification}
+use Rattle.domains.specs.declared.Justification.{Justification}
 use Rattle.network_law.specs.Moment.{Moment, Agrees, Right, bound, arcsAt}
 use Rattle.network_law.specs.Calls.{Call, opens, adds, retracts, asksDomain, asksShown, asksJustification, asksWiped}
 use Rattle.network_law.specs.Refusals.{refusal, next, spent}

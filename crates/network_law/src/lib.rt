@@ -1,5 +1,6 @@
 // What the calls on a network answer, and the law of every list of calls.
 ghost use Rattle.network_law.specs.Theorems.{HistoriesJoin, HistoriesPart, HistoriesRight};
+use domains::Justification;
 use refusal::Refusal;
 
 // What an accepted add or retract did: how many values it took away or brought back, and the wiped-out variable after it.
@@ -7,13 +8,6 @@ use refusal::Refusal;
 pub struct Change {
     pub values: u32,
     pub wiped: Option<usize>,
-}
-
-// Why a value is out: the constraint, and the time.
-#[derive(Clone, Copy)]
-pub struct Justification {
-    pub constraint: usize,
-    pub time: u32,
 }
 
 // What a call answers.

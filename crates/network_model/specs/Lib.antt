@@ -1,0 +1,3 @@
+pub mod Model
+pub mod Alike
+pub mod Performs
