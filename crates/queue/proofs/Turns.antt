@@ -1,13 +1,16 @@
 -- What a write at the tail and a step of the head make of the entries that wait.
 use mathlib.Core.Path.{_≡_, refl, sym, _∙_, ap}
 use mathlib.Core.List.{List, [], _∷_, _++_}
-use mathlib.Core.Logic.{_⊎_, inl, inr}
+use mathlib.Core.Bool.{cond}
+use mathlib.Core.Logic.{_⊎_, inl, inr, ⊎-elim}
 use Prim.Native.Nat.{ℕ, _+_, _-_, _<_, _≤_, min}
 use native.Mathlib.Omega.{arith}
 use native.Mathlib.Numerals.{add-one}
+use lib.Dec.{ltb}
 use lib.ListN.{length, take, drop, set, getD}
 use lib.Seq.{take-set-lt}
 use Rattle.std.proofs.shelf.Lists.{length-take, length-drop, length-append, length-take-le, drop-set-add, take-set-le, set-append-left, set-append-right, drop-set-lt, take-more-set, drop-more, take-more, append-assoc, append-nil, take-all, drop-all, take-append-le, getD-take, take-take}
+use Rattle.std.proofs.shelf.Tests.{cases-lt, cond-false, cond-true, le-ltb, lt-ltb}
 use Rattle.queue.specs.declared.fifo.Queue.{Queue}
 use Rattle.queue.specs.Waiting.{waiting, waits, turned}
 
@@ -105,3 +108,14 @@ module _ {T : Type 0} where
   -- as many wait as the queue counts
   pub length-waits : (q : Queue T) → length (waits q) ≡ q .len
   length-waits q = length-waiting (q .room .now) (q .limit) (q .head) (q .len) (q .within) (q .turn) (q .few)
+
+-- the two ways to the place of the next entry
+pub tail-ways : (n h k t : ℕ) → t ≡ cond (ltb k (n - h)) (h + k) (k - (n - h)) → ((k < n - h) × (t ≡ h + k)) ⊎ ((n - h ≤ k) × (t ≡ k - (n - h)))
+tail-ways n h k t e =
+    ⊎-elim (λ l. inl (l, e ∙ cond-true (ltb k (n - h)) _ _ (lt-ltb k (n - h) l))) (λ g. inr (g, e ∙ cond-false (ltb k (n - h)) _ _ (le-ltb k (n - h) g)))
+    (cases-lt k (n - h))
+
+-- the two ways to the place of the first entry
+pub start-ways : (n h t : ℕ) → t ≡ cond (ltb h n) h 0 → ((h < n) × (t ≡ h)) ⊎ ((n ≤ h) × (t ≡ 0))
+start-ways n h t e =
+    ⊎-elim (λ l. inl (l, e ∙ cond-true (ltb h n) _ 0 (lt-ltb h n l))) (λ g. inr (g, e ∙ cond-false (ltb h n) _ 0 (le-ltb h n g))) (cases-lt h n)

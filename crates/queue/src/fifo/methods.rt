@@ -1,12 +1,32 @@
 ghost use mathlib.Core.Path.{_≡_};
 ghost use mathlib.Core.List.{[], _∷_, _++_};
 ghost use mathlib.Core.Bool.{cond};
-ghost use Prim.Native.Nat.{_+_, min};
+ghost use Prim.Native.Nat.{_+_, _-_, _<_, _≤_, min};
 ghost use lib.Dec.{ltb};
 ghost use lib.ListN.{length};
 ghost use Rattle.std.specs.Options.{Cases as BySome};
-ghost use Rattle.queue.specs.Waiting.{waits, Kept, Over};
+ghost use Rattle.queue.specs.Waiting.{Kept, Over, waits};
 use super::Queue;
+
+// Where the next entry goes: after the last one, from the start again past the limit.
+fn tail(limit: usize, head: usize, len: usize) -> usize
+    requires { ⌜ (head ≤ limit) × (len < limit) ⌝ }
+    ensures { λ r. ⌜ r ≡ cond (ltb len (limit - head)) (head + len) (len - (limit - head)) ⌝ }
+{
+    let to_end = limit - head;
+    if len < to_end {
+        head + len
+    } else {
+        len - to_end
+    }
+}
+
+// Where the first entry stands: at the head, or at the start where the head has come to the limit.
+fn start(limit: usize, head: usize) -> usize
+    ensures { λ r. ⌜ r ≡ cond (ltb head limit) head 0 ⌝ }
+{
+    if head < limit { head } else { 0 }
+}
 
 impl<'a, T: Copy> Queue<'a, T> {
     // An empty queue over the room, for at most `limit` entries and no more than the room has.
@@ -17,6 +37,16 @@ impl<'a, T: Copy> Queue<'a, T> {
         ensures over { λ r. ⌜ Over r (room .entry) ⌝ }
     {
         let limit = limit.min(room.len());
+        Queue::empty(room, limit)
+    }
+
+    fn empty(room: &'a mut [T], limit: usize) -> Queue<'a, T>
+        requires { ⌜ limit ≤ length (now room) ⌝ }
+        ensures waiting { λ r. ⌜ waits r ≡ [] ⌝ }
+        ensures len { λ r. ⌜ r .len ≡ 0 ⌝ }
+        ensures limit { λ r. ⌜ r .limit ≡ limit ⌝ }
+        ensures over { λ r. ⌜ Over r (room .entry) ⌝ }
+    {
         Queue {
             room,
             limit,
@@ -35,13 +65,8 @@ impl<'a, T: Copy> Queue<'a, T> {
         if self.len >= self.limit {
             return false;
         }
-        let to_end = self.limit - self.head;
-        let tail = if self.len < to_end {
-            self.head + self.len
-        } else {
-            self.len - to_end
-        };
-        self.room[tail] = entry;
+        let place = tail(self.limit, self.head, self.len);
+        self.room[place] = entry;
         self.len += 1;
         true
     }
@@ -55,7 +80,7 @@ impl<'a, T: Copy> Queue<'a, T> {
         if self.len == 0 {
             return None;
         }
-        let head = if self.head < self.limit { self.head } else { 0 };
+        let head = start(self.limit, self.head);
         let entry = self.room[head];
         self.head = head + 1;
         self.len -= 1;
