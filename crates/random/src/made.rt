@@ -71,7 +71,7 @@ fn sum(random: &mut Random, size: usize) -> Sum {
     let size = size.min(64);
     let falling = random.below(2) == 0;
     let shift = if falling { 64 - size } else { 0 };
-    let lo = random.below(2 * size) + shift;
+    let lo = random.below(size) + shift;
     Sum {
         m: random.below(3) as u8,
         falling,

@@ -1,6 +1,8 @@
 // Trials: pseudo-random lists of calls, from fixed seeds, on catalogs of several makes. After each call the domains from scratch are compared with those of
 // another solver, and each justification is judged from its definition.
 mod book;
+mod lent;
+mod rests;
 mod second;
 mod told;
 mod trial;
@@ -36,20 +38,22 @@ enum Make {
 }
 
 fn tables(heap: Global, random: &mut Random, shape: Shape) -> Result<(), Trouble> {
-    let count = random.between(1, 10);
+    let shape = shape.narrowed(random);
+    let count = random.between(1, 12);
     let density = random.below(3);
     let catalog = made::tables(random, count, shape.variables, density);
     list(heap, &catalog, random, shape)
 }
 
 fn sums(heap: Global, random: &mut Random, shape: Shape) -> Result<(), Trouble> {
-    let count = random.between(1, 10);
+    let shape = shape.narrowed(random);
+    let count = random.between(1, 12);
     let catalog = made::sums(random, count, shape.variables, shape.values);
     list(heap, &catalog, random, shape)
 }
 
 fn renumbered(heap: Global, random: &mut Random, shape: Shape) -> Result<(), Trouble> {
-    let catalog = made::tables(random, 8, shape.variables, 0);
+    let catalog = made::tables(random, 10, shape.variables, 1);
     let numbering = made::numbering(random, shape.variables);
     list(heap, &Renumbered { catalog, numbering }, random, shape)
 }
@@ -89,40 +93,107 @@ impl Make {
     }
 }
 
-// As many lists of this make as are wanted, with what was found.
-fn lists(
-    rt: &LibcRuntime,
-    name: &str,
+// Lists of calls on catalogs of one make, from one seed.
+#[derive(Clone, Copy)]
+struct Trials {
+    name: &'static str,
     make: Make,
     seed: u64,
-    wanted: usize,
+    lists: usize,
     shape: Shape,
-) -> io::Result<()> {
-    let mut random = Random::new(seed);
-    for number in 0..wanted {
-        if let Err(trouble) = make.trial(rt.alloc(), &mut random, shape) {
-            return println!(rt, "{name}: list {number}: {trouble:?}");
+}
+
+const SMALL: Shape = Shape {
+    variables: 5,
+    values: 5,
+    calls: 24,
+};
+
+const WIDE: Shape = Shape {
+    variables: 6,
+    values: 64,
+    calls: 20,
+};
+
+const LONG: Shape = Shape {
+    variables: 32,
+    values: 40,
+    calls: 60,
+};
+
+const ALL: [Trials; 6] = [
+    Trials {
+        name: "tables",
+        make: Make::Tables,
+        seed: 0x5eed_0001,
+        lists: 4000,
+        shape: SMALL,
+    },
+    Trials {
+        name: "sums",
+        make: Make::Sums,
+        seed: 0x5eed_0002,
+        lists: 4000,
+        shape: SMALL,
+    },
+    Trials {
+        name: "renumbered",
+        make: Make::Renumbered,
+        seed: 0x5eed_0003,
+        lists: 2000,
+        shape: SMALL,
+    },
+    Trials {
+        name: "house",
+        make: Make::House,
+        seed: 0x5eed_0004,
+        lists: 200,
+        shape: WIDE,
+    },
+    Trials {
+        name: "joined",
+        make: Make::Joined,
+        seed: 0x5eed_0005,
+        lists: 200,
+        shape: WIDE,
+    },
+    Trials {
+        name: "ladder",
+        make: Make::Ladder,
+        seed: 0x5eed_0006,
+        lists: 20,
+        shape: LONG,
+    },
+];
+
+// Performs the trials and prints what came of them; says whether all agreed.
+fn perform(rt: &LibcRuntime, trials: Trials) -> io::Result<bool> {
+    let name = trials.name;
+    let lists = trials.lists;
+    let calls = trials.shape.calls;
+    let mut random = Random::new(trials.seed);
+    for number in 0..lists {
+        if let Err(trouble) = trials.make.trial(rt.alloc(), &mut random, trials.shape) {
+            println!(rt, "{name}: list {number}: {trouble:?}")?;
+            return Ok(false);
         }
     }
-    let calls = shape.calls;
-    println!(rt, "{name}: {wanted} lists of {calls} calls, all agreed")
+    println!(rt, "{name}: {lists} lists of {calls} calls")?;
+    Ok(true)
 }
 
 fn main(rt: LibcRuntime) -> io::Result<()> {
-    let small = Shape {
-        variables: 4,
-        values: 5,
-        calls: 12,
-    };
-    let wide = Shape {
-        variables: 6,
-        values: 64,
-        calls: 10,
-    };
-    lists(&rt, "tables", Make::Tables, 1, 2000, small)?;
-    lists(&rt, "sums", Make::Sums, 2, 2000, small)?;
-    lists(&rt, "house", Make::House, 3, 200, wide)?;
-    lists(&rt, "renumbered", Make::Renumbered, 4, 1000, small)?;
-    lists(&rt, "joined", Make::Joined, 5, 200, wide)?;
-    lists(&rt, "ladder", Make::Ladder, 6, 200, wide)
+    let mut lists: usize = 0;
+    let mut calls: usize = 0;
+    let mut agreed = true;
+    for trials in &ALL {
+        agreed = perform(&rt, *trials)? && agreed;
+        lists = lists.wrapping_add(trials.lists);
+        calls = calls.wrapping_add(trials.lists.wrapping_mul(trials.shape.calls));
+    }
+    if agreed {
+        println!(rt, "{lists} lists, {calls} calls: all agreed")
+    } else {
+        println!(rt, "not all agreed")
+    }
 }

@@ -56,7 +56,7 @@ impl Told {
 }
 
 // Does the constraint `p` allow `x` of its end `i` beside `y` of the other end?
-fn fits<C: Catalog>(catalog: &C, p: usize, i: usize, x: usize, y: usize) -> bool {
+pub fn fits<C: Catalog>(catalog: &C, p: usize, i: usize, x: usize, y: usize) -> bool {
     match catalog.ends(p) {
         Some((a, b)) if a == i => catalog.allows(p, x, y),
         Some((a, b)) if b == i => catalog.allows(p, y, x),

@@ -45,7 +45,18 @@ pub struct Shape {
     pub calls: usize,
 }
 
-// Sizes for as many variables, or one or two fewer.
+impl Shape {
+    // With any number of variables from 2 up to as many.
+    pub fn narrowed(self, random: &mut Random) -> Shape {
+        Shape {
+            variables: random.between(2, self.variables),
+            values: self.values,
+            calls: self.calls,
+        }
+    }
+}
+
+// Sizes for as many variables, or now and then for one fewer.
 fn draw_sizes(heap: Global, random: &mut Random, shape: Shape) -> Result<Vec<usize>, AllocError> {
     let fewer = random.below(12) / 10;
     let n = shape.variables.clamp(2, 32) - fewer;
@@ -112,7 +123,32 @@ fn change<C: Catalog>(
     Ok(())
 }
 
-// Opens a network and makes the list of calls: mostly what is out is added and what is in retracted.
+// A constraint to add or retract: mostly one that there is.
+fn draw_constraint<C: Catalog>(catalog: &C, random: &mut Random) -> usize {
+    let past = random.below(12) / 10;
+    random.below(catalog.count() + 2 * past)
+}
+
+// Makes the list of calls: mostly what is out is added and what is in retracted.
+fn calls<C: Catalog>(
+    heap: Global,
+    catalog: &C,
+    random: &mut Random,
+    wanted: usize,
+    book: &mut Book,
+    solver: &mut Solver<'_, C>,
+) -> Result<(), Trouble> {
+    for _ in 0..wanted {
+        let p = draw_constraint(catalog, random);
+        let usual = random.below(8) != 0;
+        let add = book.is_in(p) != usual;
+        change(heap, catalog, book, solver, p, add)?;
+        compare(heap, catalog, book, solver)?;
+    }
+    Ok(())
+}
+
+// Opens the variables and makes a list of calls.
 pub fn list<C: Catalog>(
     heap: Global,
     catalog: &C,
@@ -123,12 +159,5 @@ pub fn list<C: Catalog>(
     let mut solver = Solver::open(heap, catalog, &sizes)?;
     let mut book = Book::open(heap, sizes)?;
     compare(heap, catalog, &book, &solver)?;
-    for _ in 0..shape.calls {
-        let p = random.below(catalog.count() + 2);
-        let usual = random.below(8) != 0;
-        let add = book.is_in(p) != usual;
-        change(heap, catalog, &mut book, &mut solver, p, add)?;
-        compare(heap, catalog, &book, &solver)?;
-    }
-    Ok(())
+    calls(heap, catalog, random, shape.calls, &mut book, &mut solver)
 }
