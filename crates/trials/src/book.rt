@@ -1,5 +1,6 @@
 // Which variables and constraints a list of calls has brought about, kept by the trials themselves.
 use catalog::Catalog;
+use refusal::Refusal;
 use std::alloc::AllocError;
 use std::alloc::Global;
 
@@ -31,11 +32,28 @@ impl Book {
         }
     }
 
-    // May the constraint `p` be added: is there one, between two of the variables, and is it not in?
-    pub fn may_add<C: Catalog>(&self, catalog: &C, p: usize) -> bool {
+    // Why the constraint `p` may not be added, if so.
+    fn add_refusal<C: Catalog>(&self, catalog: &C, p: usize) -> Option<Refusal> {
         match catalog.ends(p) {
-            Some((a, b)) => a < self.sizes.len() && b < self.sizes.len() && !self.is_in(p),
-            None => false,
+            None => Some(Refusal::NoSuchConstraint),
+            Some((a, b)) if a >= self.sizes.len() || b >= self.sizes.len() => {
+                Some(Refusal::EndOutside)
+            }
+            Some(_) if self.is_in(p) => Some(Refusal::AlreadyIn),
+            Some(_) => None,
+        }
+    }
+
+    // Why the constraint `p` may not be added, or not retracted, if so.
+    pub fn refusal<C: Catalog>(&self, catalog: &C, p: usize, add: bool) -> Option<Refusal> {
+        if add {
+            self.add_refusal(catalog, p)
+        } else if p >= catalog.count() {
+            Some(Refusal::NoSuchConstraint)
+        } else if self.is_in(p) {
+            None
+        } else {
+            Some(Refusal::NotIn)
         }
     }
 

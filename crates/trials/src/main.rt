@@ -1,11 +1,14 @@
-// Trials: pseudo-random lists of calls, from fixed seeds, on catalogs of several makes. After each call the domains from scratch are compared with those of
-// another solver, and each justification is judged from its definition.
+// Trials: pseudo-random lists of calls, from fixed seeds, on catalogs of several makes. After each call what the network tells is compared with the domains from
+// scratch and with those of another solver, and each justification is judged from its definition.
 mod book;
+mod expected;
+mod first;
 mod lent;
 mod rests;
 mod second;
 mod told;
 mod trial;
+mod trouble;
 
 use catalog::joined::Joined;
 use catalog::joined::JoinedCatalog;
@@ -22,9 +25,9 @@ use samples::ladder::LadderCatalog;
 use std::alloc::Global;
 use std::io;
 use trial::Shape;
-use trial::Trouble;
-use trial::TroubleDebug;
 use trial::list;
+use trouble::Trouble;
+use trouble::TroubleDebug;
 
 // The makes of catalogs.
 #[derive(Clone, Copy)]
@@ -106,19 +109,19 @@ struct Trials {
 const SMALL: Shape = Shape {
     variables: 5,
     values: 5,
-    calls: 24,
+    calls: 11,
 };
 
 const WIDE: Shape = Shape {
     variables: 6,
     values: 64,
-    calls: 20,
+    calls: 9,
 };
 
 const LONG: Shape = Shape {
-    variables: 32,
-    values: 40,
-    calls: 60,
+    variables: 12,
+    values: 14,
+    calls: 19,
 };
 
 const ALL: [Trials; 6] = [
@@ -126,35 +129,35 @@ const ALL: [Trials; 6] = [
         name: "tables",
         make: Make::Tables,
         seed: 0x5eed_0001,
-        lists: 4000,
+        lists: 3000,
         shape: SMALL,
     },
     Trials {
         name: "sums",
         make: Make::Sums,
         seed: 0x5eed_0002,
-        lists: 4000,
+        lists: 3000,
         shape: SMALL,
     },
     Trials {
         name: "renumbered",
         make: Make::Renumbered,
         seed: 0x5eed_0003,
-        lists: 2000,
+        lists: 1500,
         shape: SMALL,
     },
     Trials {
         name: "house",
         make: Make::House,
         seed: 0x5eed_0004,
-        lists: 200,
+        lists: 60,
         shape: WIDE,
     },
     Trials {
         name: "joined",
         make: Make::Joined,
         seed: 0x5eed_0005,
-        lists: 200,
+        lists: 40,
         shape: WIDE,
     },
     Trials {
@@ -170,7 +173,7 @@ const ALL: [Trials; 6] = [
 fn perform(rt: &LibcRuntime, trials: Trials) -> io::Result<bool> {
     let name = trials.name;
     let lists = trials.lists;
-    let calls = trials.shape.calls;
+    let calls = trials.shape.all_calls();
     let mut random = Random::new(trials.seed);
     for number in 0..lists {
         if let Err(trouble) = trials.make.trial(rt.alloc(), &mut random, trials.shape) {
@@ -189,7 +192,7 @@ fn main(rt: LibcRuntime) -> io::Result<()> {
     for trials in &ALL {
         agreed = perform(&rt, *trials)? && agreed;
         lists = lists.wrapping_add(trials.lists);
-        calls = calls.wrapping_add(trials.lists.wrapping_mul(trials.shape.calls));
+        calls = calls.wrapping_add(trials.lists.wrapping_mul(trials.shape.all_calls()));
     }
     if agreed {
         println!(rt, "{lists} lists, {calls} calls: all agreed")

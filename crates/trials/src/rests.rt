@@ -24,7 +24,7 @@ fn rests<C: Catalog>(
     i: usize,
     x: usize,
     account: Account,
-    p: usize,
+    p: Option<usize>,
 ) -> bool {
     let Some(j) = other_end(catalog, account.constraint, i) else {
         return false;
@@ -34,7 +34,7 @@ fn rests<C: Catalog>(
             return true;
         }
     }
-    account.constraint == p
+    p == Some(account.constraint)
 }
 
 // Notes that the value rests, and says whether that is new.
@@ -54,7 +54,7 @@ fn sweep<C: Catalog>(
     book: &Book,
     told: &Told,
     resting: &mut Resting,
-    p: usize,
+    p: Option<usize>,
 ) -> bool {
     let mut more = false;
     for i in 0..book.sizes.len() {
@@ -69,13 +69,13 @@ fn sweep<C: Catalog>(
     more
 }
 
-// The values whose justification rests on `p`.
+// The values whose justification rests on `p`, if there is one.
 pub fn resting_on<C: Catalog>(
     heap: Global,
     catalog: &C,
     book: &Book,
     told: &Told,
-    p: usize,
+    p: Option<usize>,
 ) -> Result<Resting, AllocError> {
     let mut resting = vec![in heap; 0; book.sizes.len()]?;
     // each sweep but the last notes one of at most 2,048 values

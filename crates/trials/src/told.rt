@@ -117,3 +117,28 @@ pub fn justified<C: Catalog>(catalog: &C, book: &Book, told: &Told) -> bool {
     }
     true
 }
+
+// The times of all accounts.
+fn times(heap: Global, book: &Book, told: &Told) -> Result<Vec<u64>, AllocError> {
+    let mut times = Vec::new(heap);
+    for i in 0..book.sizes.len() {
+        for x in 0..book.size(i) {
+            if let Some(account) = told.account(i, x) {
+                times.push(account.time)?;
+            }
+        }
+    }
+    Ok(times)
+}
+
+// Have no two accounts the same time?
+pub fn times_differ(heap: Global, book: &Book, told: &Told) -> Result<bool, AllocError> {
+    let mut times = times(heap, book, told)?;
+    times.sort();
+    for pair in times.windows(2) {
+        if pair[0] == pair[1] {
+            return Ok(false);
+        }
+    }
+    Ok(true)
+}

@@ -1,43 +1,27 @@
 // One list of calls: after each of them every party is to tell the same.
 use crate::book::Book;
+use crate::expected;
+use crate::first::First;
+use crate::rests::kept;
+use crate::rests::resting_on;
 use crate::second;
+use crate::told::Told;
 use crate::told::justified;
+use crate::told::times_differ;
+use crate::trouble::Trouble;
+use crate::trouble::TroubleFromAlloc;
+use crate::trouble::TroubleFromRefusal;
+use crate::trouble::TroubleFromRefused;
 use acdc2::Solver;
 use catalog::Catalog;
+use network_law::Change;
 use random::Random;
-use scratch::largest_domains;
+use refusal::Refusal;
+use refusal::RefusalPartialEq;
 use std::alloc::AllocError;
 use std::alloc::Global;
-use std::alloc::Refused;
 
-// What a trial may find.
-#[derive(Clone, Copy, Debug)]
-pub enum Trouble {
-    // no memory: the trial says nothing
-    Memory,
-    // a call was accepted that is to be refused, or the other way round
-    Acceptance,
-    // the largest domains from scratch were refused
-    Scratch,
-    // the second solver has other domains than those from scratch
-    SecondDomains,
-    // a value without a right justification
-    SecondJustification,
-}
-
-pub impl From<AllocError> for Trouble as TroubleFromAlloc {
-    fn from(_: AllocError) -> Trouble {
-        Trouble::Memory
-    }
-}
-
-pub impl<T: Drop> From<Refused<T>> for Trouble as TroubleFromRefused {
-    fn from(_: Refused<T>) -> Trouble {
-        Trouble::Memory
-    }
-}
-
-// How large the networks of a list may be, and how many calls it has.
+// How large the networks of a list may be, and how many calls follow each opening.
 #[derive(Clone, Copy)]
 pub struct Shape {
     pub variables: usize,
@@ -46,6 +30,11 @@ pub struct Shape {
 }
 
 impl Shape {
+    // How many calls a list has: it opens the network twice.
+    pub fn all_calls(self) -> usize {
+        self.calls.wrapping_add(1).wrapping_mul(2)
+    }
+
     // With any number of variables from 2 up to as many.
     pub fn narrowed(self, random: &mut Random) -> Shape {
         Shape {
@@ -67,26 +56,38 @@ fn draw_sizes(heap: Global, random: &mut Random, shape: Shape) -> Result<Vec<usi
     Ok(sizes)
 }
 
-// The largest domains from scratch.
-fn from_scratch<C: Catalog>(heap: Global, catalog: &C, book: &Book) -> Result<Vec<u64>, Trouble> {
-    let indices = book.indices(heap)?;
-    let mut domains = vec![in heap; 0; book.sizes.len()]?;
-    match largest_domains(catalog, &book.sizes, &indices, &mut domains) {
-        Ok(()) => Ok(domains),
-        Err(_) => Err(Trouble::Scratch),
-    }
+// A constraint to add or retract: mostly one that there is.
+fn draw_constraint<C: Catalog>(catalog: &C, random: &mut Random) -> usize {
+    let past = random.below(12) / 10;
+    random.below(catalog.count() + 2 * past)
 }
 
-// Do all parties tell the same, and are all justifications right?
-fn compare<C: Catalog>(
+// A call: a constraint, and whether it is to be added or retracted.
+#[derive(Clone, Copy)]
+struct Call {
+    constraint: usize,
+    add: bool,
+}
+
+// The book that the trials keep, what stood after the last call by the computation from scratch and by the network, and the second solver.
+#[derive(Drop)]
+struct Parties<'a, C> {
+    book: Book,
+    domains: Vec<u64>,
+    told: Told,
+    solver: Solver<'a, C>,
+}
+
+// Has the second solver these domains, with every value that is out justified?
+fn check_second<C: Catalog>(
     heap: Global,
     catalog: &C,
     book: &Book,
     solver: &Solver<'_, C>,
+    domains: &Vec<u64>,
 ) -> Result<(), Trouble> {
-    let domains = from_scratch(heap, catalog, book)?;
     let told = second::told_by(heap, catalog, book, solver)?;
-    if told.domains != domains {
+    if told.domains != *domains {
         return Err(Trouble::SecondDomains);
     }
     if !justified(catalog, book, &told) {
@@ -95,69 +96,190 @@ fn compare<C: Catalog>(
     Ok(())
 }
 
-// Adds the constraint `p`, or retracts it.
-fn change<C: Catalog>(
+// Does the network tell these domains, with every value that is out justified?
+fn check_first<C: Catalog>(
     heap: Global,
     catalog: &C,
-    book: &mut Book,
-    solver: &mut Solver<'_, C>,
-    p: usize,
-    add: bool,
+    book: &Book,
+    told: &Told,
+    domains: &Vec<u64>,
+    wiped: Option<usize>,
 ) -> Result<(), Trouble> {
-    let due = if add {
-        book.may_add(catalog, p)
-    } else {
-        book.is_in(p)
-    };
-    let done = if add {
-        solver.add(p)
-    } else {
-        solver.retract(heap, p)?
-    };
-    if done != due {
-        return Err(Trouble::Acceptance);
+    if told.domains != *domains {
+        return Err(Trouble::Domains);
     }
-    if due {
-        book.set_in(p, add);
+    if wiped != expected::wiped_out(domains) {
+        return Err(Trouble::WipedOut);
+    }
+    if !justified(catalog, book, told) {
+        return Err(Trouble::Justification);
+    }
+    if !times_differ(heap, book, told)? {
+        return Err(Trouble::Times);
     }
     Ok(())
 }
 
-// A constraint to add or retract: mostly one that there is.
-fn draw_constraint<C: Catalog>(catalog: &C, random: &mut Random) -> usize {
-    let past = random.below(12) / 10;
-    random.below(catalog.count() + 2 * past)
+// Opens the network, and the second solver with it.
+fn open<'a, C: Catalog>(
+    heap: Global,
+    catalog: &'a C,
+    first: &mut First<'_, C>,
+    sizes: Vec<usize>,
+    time: u32,
+) -> Result<Parties<'a, C>, Trouble> {
+    first.open(&sizes, time)?;
+    let solver = Solver::open(heap, catalog, &sizes)?;
+    let book = Book::open(heap, sizes)?;
+    let domains = expected::domains(heap, catalog, &book)?;
+    let told = first.tell(heap, &book)?;
+    check_first(heap, catalog, &book, &told, &domains, first.wiped_out())?;
+    check_second(heap, catalog, &book, &solver, &domains)?;
+    Ok(Parties {
+        book,
+        domains,
+        told,
+        solver,
+    })
 }
 
-// Makes the list of calls: mostly what is out is added and what is in retracted.
+// Is the network's answer the one that is due: refused by the cause that the book gives, or with the number of values that went or came back, and the
+// wiped-out variable?
+fn check_answer(
+    answer: Result<Change, Refusal>,
+    due: Option<Refusal>,
+    values: u32,
+    wiped: Option<usize>,
+) -> Result<(), Trouble> {
+    match (answer, due) {
+        (Ok(change), None) => {
+            if change.values != values {
+                return Err(Trouble::Count);
+            }
+            if change.wiped != wiped {
+                return Err(Trouble::WipedOut);
+            }
+            Ok(())
+        }
+        (Err(cause), Some(other)) if cause == other => Ok(()),
+        _ => Err(Trouble::Cause),
+    }
+}
+
+// The justifications that do not rest on what is retracted are to be kept: all of them where nothing is.
+fn check_kept<C: Catalog>(
+    heap: Global,
+    catalog: &C,
+    book: &Book,
+    before: &Told,
+    after: &Told,
+    retracted: Option<usize>,
+) -> Result<(), Trouble> {
+    let resting = resting_on(heap, catalog, book, before, retracted)?;
+    if kept(book, before, after, &resting) {
+        Ok(())
+    } else {
+        Err(Trouble::Kept)
+    }
+}
+
+// Makes the call of the second solver.
+fn call_second<C: Catalog>(
+    heap: Global,
+    solver: &mut Solver<'_, C>,
+    call: Call,
+    accepted: bool,
+) -> Result<(), Trouble> {
+    let done = if call.add {
+        solver.add(call.constraint)
+    } else {
+        solver.retract(heap, call.constraint)?
+    };
+    if done == accepted {
+        Ok(())
+    } else {
+        Err(Trouble::SecondAcceptance)
+    }
+}
+
+// Makes one call of every party, and compares.
+fn perform<C: Catalog>(
+    heap: Global,
+    catalog: &C,
+    first: &mut First<'_, C>,
+    parties: &mut Parties<'_, C>,
+    call: Call,
+) -> Result<(), Trouble> {
+    let p = call.constraint;
+    let due = parties.book.refusal(catalog, p, call.add);
+    let answer = if call.add {
+        first.add(p)
+    } else {
+        first.retract(p)
+    };
+    call_second(heap, &mut parties.solver, call, due.is_none())?;
+    let told = first.tell(heap, &parties.book)?;
+    let retracted = if call.add || due.is_some() {
+        None
+    } else {
+        Some(p)
+    };
+    check_kept(
+        heap,
+        catalog,
+        &parties.book,
+        &parties.told,
+        &told,
+        retracted,
+    )?;
+    if due.is_none() {
+        parties.book.set_in(p, call.add);
+    }
+    let domains = expected::domains(heap, catalog, &parties.book)?;
+    let values = expected::differing(&parties.domains, &domains);
+    check_answer(answer, due, values, expected::wiped_out(&domains))?;
+    check_first(
+        heap,
+        catalog,
+        &parties.book,
+        &told,
+        &domains,
+        first.wiped_out(),
+    )?;
+    check_second(heap, catalog, &parties.book, &parties.solver, &domains)?;
+    parties.domains = domains;
+    parties.told = told;
+    Ok(())
+}
+
+// Opens the network and makes calls: mostly what is out is added and what is in retracted.
 fn calls<C: Catalog>(
     heap: Global,
     catalog: &C,
+    first: &mut First<'_, C>,
     random: &mut Random,
-    wanted: usize,
-    book: &mut Book,
-    solver: &mut Solver<'_, C>,
+    shape: Shape,
 ) -> Result<(), Trouble> {
-    for _ in 0..wanted {
-        let p = draw_constraint(catalog, random);
+    let sizes = draw_sizes(heap, random, shape)?;
+    let time = random.below(4_000_000_000) as u32;
+    let mut parties = open(heap, catalog, first, sizes, time)?;
+    for _ in 0..shape.calls {
+        let constraint = draw_constraint(catalog, random);
         let usual = random.below(8) != 0;
-        let add = book.is_in(p) != usual;
-        change(heap, catalog, book, solver, p, add)?;
-        compare(heap, catalog, book, solver)?;
+        let add = parties.book.is_in(constraint) != usual;
+        perform(heap, catalog, first, &mut parties, Call { constraint, add })?;
     }
     Ok(())
 }
 
-// Opens the variables and makes a list of calls.
+// Makes a network, and twice opens it and makes calls.
 pub fn list<C: Catalog>(
     heap: Global,
     catalog: &C,
     random: &mut Random,
     shape: Shape,
 ) -> Result<(), Trouble> {
-    let sizes = draw_sizes(heap, random, shape)?;
-    let mut solver = Solver::open(heap, catalog, &sizes)?;
-    let mut book = Book::open(heap, sizes)?;
-    compare(heap, catalog, &book, &solver)?;
-    calls(heap, catalog, random, shape.calls, &mut book, &mut solver)
+    let mut first = First::new(heap, catalog)?;
+    calls(heap, catalog, &mut first, random, shape)?;
+    calls(heap, catalog, &mut first, random, shape)
 }
