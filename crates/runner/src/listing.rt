@@ -50,7 +50,11 @@ fn add_questions(calls: &mut Vec<Call<'_>>, n: usize) -> Result<(), AllocError>
 }
 
 // Open at time 0, make the moves, ask for each domain.
-pub fn calls_for<'a>(heap: Global, sizes: &'a [usize], moves: &[Move]) -> Result<Vec<Call<'a>>, AllocError>
+pub fn calls_for<'a>(
+    heap: Global,
+    sizes: &'a [usize],
+    moves: &[Move],
+) -> Result<Vec<Call<'a>>, AllocError>
     ensures { λ r. ⌜ made r (λ v. (rooms : Rooms) → callsOf rooms (vec-items v) ≡ callsFor rooms (now (sizes .entry)) (now (moves .entry))) ⌝ }
 {
     let mut calls = Vec::new(heap);

@@ -10,5 +10,5 @@ use Rattle.runner.proofs.listing.add_call.Needs as need
 pub returns : need.returns
 returns c =
     λ rooms.
-      ap (callsOf rooms) (pushed (c .args .call ∷ []) refl (c .in-Continue-push .was tt) (c .push .ensures .items))
-      ∙ map-push (callOf rooms) (vec-items (now (c .args .calls))) (c .args .call)
+    ap (callsOf rooms) (pushed (c .args .call ∷ []) refl (c .in-Continue-push .was tt) (c .push .ensures .items))
+    ∙ map-push (callOf rooms) (vec-items (now (c .args .calls))) (c .args .call)

@@ -14,11 +14,11 @@ loop-i-holds c = λ rooms. no-questions (callsOf rooms (vec-items (now (c .args 
 pub loop-i-again : need.loop-i-again
 loop-i-again c =
     λ rooms.
-      question-more (callsOf rooms (vec-items (now (c .args .calls)))) (callsOf rooms (vec-items (c .loop-i .calls))) (callsOf rooms (vec-items (c .add-call .last .calls))) (c .loop-i .i)
-        (c .loop-i .inv rooms) (c .in-Continue-add-call .ensures tt rooms)
+    question-more (callsOf rooms (vec-items (now (c .args .calls)))) (callsOf rooms (vec-items (c .loop-i .calls))) (callsOf rooms (vec-items (c .add-call .last .calls))) (c .loop-i .i)
+    (c .loop-i .inv rooms) (c .in-Continue-add-call .ensures tt rooms)
 
 pub returns : need.returns
 returns c =
     λ rooms.
-      let whole : c .loop-i .i ≡ c .args .n = omega arith in
-      c .loop-i .inv rooms ∙ ap (λ k. callsOf rooms (vec-items (now (c .args .calls))) ++ domainsAsked k) whole
+    let whole : c .loop-i .i ≡ c .args .n = omega arith in
+    c .loop-i .inv rooms ∙ ap (λ k. callsOf rooms (vec-items (now (c .args .calls))) ++ domainsAsked k) whole

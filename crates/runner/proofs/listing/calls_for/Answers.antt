@@ -11,8 +11,8 @@ use Rattle.runner.proofs.listing.calls_for.Needs as need
 pub returns : need.returns
 returns c =
     λ rooms.
-      c .in-Continue-add-questions .ensures tt rooms
-      ∙ ap (λ xs. xs ++ domainsAsked (length (now (c .args .sizes))))
-        (c .in-Continue-add-moves .ensures tt rooms
-        ∙ ap (λ xs. xs ++ map (moveCall rooms) (now (c .args .moves)))
-          (c .in-Continue-add-call .ensures tt rooms ∙ ap (λ v. callsOf rooms v ++ (opens (now (c .args .sizes)) 0 ∷ [])) (c .new-calls .ensures .items)))
+    c .in-Continue-add-questions .ensures tt rooms
+    ∙ ap (λ xs. xs ++ domainsAsked (length (now (c .args .sizes))))
+    (c .in-Continue-add-moves .ensures tt rooms
+    ∙ ap (λ xs. xs ++ map (moveCall rooms) (now (c .args .moves)))
+    (c .in-Continue-add-call .ensures tt rooms ∙ ap (λ v. callsOf rooms v ++ (opens (now (c .args .sizes)) 0 ∷ [])) (c .new-calls .ensures .items)))
