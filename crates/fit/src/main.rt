@@ -1,32 +1,13 @@
 // Reads a sheet from standard input, makes its moves on a network, and prints what came of each move and the domains after them.
 mod report;
 
-use catalog::joined::JoinedCatalog;
-use catalog::renumbered::RenumberedCatalog;
-use house::HouseAsCatalog;
-use report::Report;
 use report::lines_of;
-use runner::FromMovesFault;
-use runner::FromNoMemory;
 use runner::RunFault;
-use runner::run_moves;
-use sheet_catalog::SheetAsCatalog;
-use sheet_moves::moves_of;
-use sheet_pile::pile;
-use sheet_pile::sizes::Sizes;
+use sheet_run::run_sheet;
 use sheet_text::fault_line;
-use std::alloc::Global;
 use std::error::AnyError;
 use std::io;
 use std::io::Read;
-
-// The sheet's moves, made on the pile of its constraints and the house's.
-fn run_sheet(heap: Global, sheet: &[u8]) -> Result<Report, RunFault> {
-    let moves = moves_of(heap, sheet)?;
-    let sizes = Sizes::of(sheet);
-    let answers = run_moves(heap, pile(sheet), sizes.as_slice(), moves.as_slice())?;
-    Ok(Report { moves, answers })
-}
 
 fn read_all(rt: &LibcRuntime) -> io::Result<Vec<u8>> {
     let mut bytes = Vec::new(rt.alloc());

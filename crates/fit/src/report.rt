@@ -5,16 +5,9 @@ use refusal::Refusal;
 use run_text::domain_line;
 use run_text::move_line;
 use runner::outcome_of;
-use sheet_moves::Move;
+use sheet_run::Report;
 use std::alloc::AllocError;
 use std::alloc::Global;
-
-// The moves of a run, and its answers: to the opening, to each move, and to the question for each domain.
-#[derive(Drop)]
-pub struct Report {
-    pub moves: Vec<Move>,
-    pub answers: Vec<Answer>,
-}
 
 fn add_line(out: &mut String, line: String) -> Result<(), AllocError> {
     out.push_str(line.as_str())?;
