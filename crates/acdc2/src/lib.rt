@@ -8,6 +8,8 @@
 // justification names the neighbour and not the constraint. So a retraction puts back every value that any constraint between the
 // two variables may have put out, and a value that gains a support under any of them: more than is needed, never less, since the one
 // that did put it out is among them. The filtering at the end puts the surplus out again.
+#![tactic(auto)]
+
 use catalog::Catalog;
 use state::State;
 use std::alloc::{AllocError, Global};

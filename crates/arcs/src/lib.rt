@@ -1,4 +1,6 @@
 // Arc consistency: what is proved of families of domains, over any arcs. Each function stands for the theorem in its contract.
+#![tactic(auto)]
+
 ghost use Rattle.arcs.specs.Theorems.{OneLargest, OneWipedOut, SomeLargest, UnionConsistent};
 
 // The union of two consistent families is consistent.

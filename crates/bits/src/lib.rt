@@ -1,4 +1,6 @@
 // Sets of values below 64, held as the bits of a `u64`.
+#![tactic(auto)]
+
 ghost use Rattle.std.specs.Prelude.{◌≡◌, ℕ, ◌<◌, ◌≤◌, true, not, ◌&&◌, ◌||◌, ◌==◌, nat_lt};
 ghost use Rattle.bits.specs.Bits.{has_bit};
 

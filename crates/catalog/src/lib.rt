@@ -1,4 +1,6 @@
 // Catalogs of constraints: what a catalog is, two joined into one, and one with its variables renumbered.
+#![tactic(auto)]
+
 ghost use Rattle.std.specs.Prelude.{◌≡◌, ◌≤◌};
 ghost use Rattle.catalog.specs.Constraints.{arcs_of};
 ghost use Rattle.catalog.specs.Meaning.{Meaning, Lawful, GoodEnds, ends_of, allowed};

@@ -1,4 +1,5 @@
 // The plain data of the propagation engine: constraints with their rows of supports, and domains with their justifications.
+#![tactic(auto)]
 
 mod make;
 

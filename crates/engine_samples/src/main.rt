@@ -1,4 +1,6 @@
 // Drives the engine on small samples and on larger made cases, and prints domains and justifications.
+#![tactic(auto)]
+
 use domains::Returning;
 use engine::Engine;
 use std::io;

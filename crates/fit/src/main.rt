@@ -1,4 +1,6 @@
 // Reads a sheet from standard input, makes its moves on a network, and prints what came of each move and the domains after them.
+#![tactic(auto)]
+
 mod report;
 
 use anyhow::anyhow;

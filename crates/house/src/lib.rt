@@ -1,4 +1,6 @@
 // The house catalog: four constraints of the house's own, held as one table.
+#![tactic(auto)]
+
 ghost use Rattle.std.specs.Prelude.{◌≡◌, ℕ, ◌<◌, true, ◌&&◌, length, nat_lt};
 ghost use Rattle.bits.specs.Bits.{has_bit};
 ghost use Rattle.house.specs.House.{house, house_lawful};

@@ -1,4 +1,6 @@
 // Justifications of values that are out, over any arcs. Each function stands for the theorem in its contract.
+#![tactic(auto)]
+
 ghost use Rattle.justify.specs.Theorems.{JustifiedLargest, MoreKeeps, OutOfEvery, PutOutKeeps, ReleaseKeeps};
 
 // Where all that is out is justified, no consistent family inside the bound contains any of it.

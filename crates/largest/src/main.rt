@@ -1,4 +1,6 @@
 // Prints the largest domains for a handful of cases over piles of catalogs.
+#![tactic(auto)]
+
 mod shown;
 
 use catalog::joined::Joined;

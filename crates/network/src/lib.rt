@@ -1,4 +1,6 @@
 // Networks: constraints of a catalog go in and out, and for each variable the values that are still possible can be asked, and why others are not.
+#![tactic(auto)]
+
 mod calls;
 mod checks;
 mod knowing;

@@ -1,4 +1,6 @@
 // Prints what a network answers at its limits: before it is opened, at the last times, and with rooms that are too short or longer than needed.
+#![tactic(auto)]
+
 mod rooms;
 
 use domains::Justification;

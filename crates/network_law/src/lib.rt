@@ -1,4 +1,6 @@
 // What the calls on a network answer, and the law of every list of calls.
+#![tactic(auto)]
+
 ghost use Rattle.network_law.specs.Theorems.{HistoriesJoin, HistoriesPart, HistoriesRight};
 
 use domains::Justification;

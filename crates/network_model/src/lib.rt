@@ -1,4 +1,6 @@
 // What a network holds beside its catalog, and what that means.
+#![tactic(auto)]
+
 ghost use Rattle.std.specs.Prelude.{◌≡◌, length};
 
 use engine::Engine;

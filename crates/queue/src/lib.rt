@@ -1,4 +1,6 @@
 // A first-in-first-out queue over a lent slice.
+#![tactic(auto)]
+
 mod fifo;
 
 pub use fifo::Queue;

@@ -1,4 +1,6 @@
 // Numbers and catalogs that look like chance, the same for the same seed.
+#![tactic(auto)]
+
 ghost use Rattle.std.specs.Prelude.{◌*◌, ◌<◌, ◌≤◌, ◌%◌, ◌^◌, ◌≡◌};
 ghost use Rattle.random.specs.Xorshift.{FACTOR, stirred};
 

@@ -1,4 +1,6 @@
 // The lines that a run prints.
+#![tactic(auto)]
+
 mod domains;
 mod lines;
 

@@ -1,4 +1,6 @@
 // A run of a sheet: its moves made on a network, one after another.
+#![tactic(auto)]
+
 mod faults;
 mod listing;
 mod running;

@@ -1,4 +1,6 @@
 // Worked samples: three small catalogs, and what is proved of their largest domains and of the house catalog's rows.
+#![tactic(auto)]
+
 ghost use Rattle.std.specs.Prelude.{◌≡◌};
 ghost use Rattle.samples.specs.Samples.{Samples};
 ghost use Rattle.samples.specs.Small.{meaning_of, sample_lawful};

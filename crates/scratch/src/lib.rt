@@ -1,4 +1,6 @@
 // The largest arc-consistent domains from scratch.
+#![tactic(auto)]
+
 ghost use Rattle.std.specs.Prelude.{◌≡◌, length, None, MatchResult};
 ghost use Rattle.scratch.specs.Refused.{refusal};
 ghost use Rattle.scratch.specs.Written.{Written};

@@ -1,4 +1,6 @@
 // Reading a sheet: one record at a time, and the check of the whole.
+#![tactic(auto)]
+
 mod checking;
 mod progress;
 mod reader;

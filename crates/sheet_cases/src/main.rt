@@ -1,5 +1,7 @@
 // Checks the sheets of a table of cases, one a line on standard input, and prints each verdict with the count of records before a fault.
 // A line is a name, a colon and the sheet's bytes: words of hexadecimal digits, each perhaps followed by `*` and how often it stands.
+#![tactic(auto)]
+
 use anyhow::anyhow;
 use sheet::check;
 use sheet_text::{accepted_line, fault_line};

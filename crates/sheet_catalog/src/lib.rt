@@ -1,4 +1,6 @@
 // The constraints of a sheet as a catalog that reads them straight from the sheet's bytes.
+#![tactic(auto)]
+
 ghost use Rattle.std.specs.Prelude.{◌≡◌, ℕ, ◌<◌, ◌≤◌, length, slice_index};
 ghost use Rattle.sheet_meaning.specs.Meant.{meaning_of, sheet_in};
 ghost use Rattle.sheet_meaning.specs.Begun.{Begun};

@@ -1,4 +1,6 @@
 // The sheet format: its faults, what a record shows, and what the check of a sheet finds.
+#![tactic(auto)]
+
 mod faults;
 mod found;
 

@@ -1,4 +1,6 @@
 // The moves of a sheet, decoded.
+#![tactic(auto)]
+
 mod kinds;
 mod moves;
 

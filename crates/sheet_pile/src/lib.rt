@@ -1,4 +1,6 @@
 // What a network needs of a sheet: the numbering of its variables, their sizes, and the pile of its constraints and the house's.
+#![tactic(auto)]
+
 ghost use Rattle.std.specs.Prelude.{◌≡◌};
 ghost use Rattle.catalog.specs.Joined.{joined};
 ghost use Rattle.catalog.specs.Renumbered.{renumbered};

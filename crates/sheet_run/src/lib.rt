@@ -1,4 +1,6 @@
 // The run of a whole sheet.
+#![tactic(auto)]
+
 mod reports;
 mod sheets;
 

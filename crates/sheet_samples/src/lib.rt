@@ -1,4 +1,6 @@
 // A worked sheet, and what is proved of its bytes.
+#![tactic(auto)]
+
 ghost use Rattle.std.specs.Prelude.{◌≡◌};
 ghost use Rattle.sheet_samples.specs.Chain.{chain_bytes, ChainHolds};
 

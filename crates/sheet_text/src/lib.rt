@@ -1,4 +1,6 @@
 // The lines that say what the check of a sheet found.
+#![tactic(auto)]
+
 ghost use Rattle.std.specs.Prelude.{◌≡◌, IfOk, string_bytes};
 ghost use Rattle.sheet_text.specs.Lines.{refusal_line, fault_line, accepted_line};
 

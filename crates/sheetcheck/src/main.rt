@@ -1,4 +1,6 @@
 // Reads a sheet from standard input and prints what its check finds, in one line.
+#![tactic(auto)]
+
 use sheet::check;
 use sheet_format::{SheetFault, Summary};
 use sheet_text::{accepted_line, fault_line};

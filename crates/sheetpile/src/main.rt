@@ -1,6 +1,8 @@
 // For those who write sheets. Reads a sheet from standard input and prints, for the pile of its constraints and the house's: a line for each
 // constraint with its index, its ends and how many pairs inside the sizes it allows, or `outside` where an end is none of the sheet's variables;
 // then the largest domains with all the constraints in that are not outside. A refused sheet prints its fault only.
+#![tactic(auto)]
+
 mod counting;
 
 use catalog::Catalog;

@@ -1,5 +1,7 @@
 // Trials: pseudo-random lists of calls, from fixed seeds, on catalogs of several makes. After each call what the network tells is compared with the domains from
 // scratch and with those of another solver, and each justification is judged from its definition.
+#![tactic(auto)]
+
 mod book;
 mod expected;
 mod first;

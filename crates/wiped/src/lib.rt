@@ -1,4 +1,6 @@
 // The wiped-out variable of a list of domains.
+#![tactic(auto)]
+
 ghost use Rattle.std.specs.Prelude.{length};
 ghost use Rattle.arcs.specs.WipedOut.{WipedOut};
 ghost use Rattle.bits.specs.Bits.{domains_of};
