@@ -12,7 +12,7 @@ use Rattle.justify.proofs.Keeps.{same_refl}
 use Rattle.refusal.specs.declared.Refusal.{Refusal}
 use Rattle.domains.specs.declared.Constraints.{Constraints}
 use Rattle.domains.specs.declared.Domains.{Domains}
-use Rattle.domains.specs.Model.{within, is_present, shown, standing, total, reason_is, arcs_of as arcsIn}
+use Rattle.domains.specs.Model.{within, is_present, shown, standing, total, reason_is, arcs_of as arcs_in}
 use Rattle.domains.specs.Sound.{Sized}
 use Rattle.domains.specs.Stands.{with_present}
 use Rattle.engine.specs.Calls.{Right as RightIn, Added, Retracted}
@@ -72,21 +72,21 @@ module _ (m : Meaning) (lawful : Lawful m) (c : Constraints) (d : Domains) (n : 
       record {
         largest =
             subst (λ b. Largest (arcs_of m (is_present c)) b (shown d)) (sym here)
-            (alike_largest (within c) (arcsIn c) (arcs_of m (is_present c)) (alike m lawful c n known links) (shown d) r.largest);
+            (alike_largest (within c) (arcs_in c) (arcs_of m (is_present c)) (alike m lawful c n known links) (shown d) r.largest);
         justified =
             subst (λ b. Justified (arcs_of m (is_present c)) b (standing d)) (sym here)
-            (alike_justified (within c) (arcsIn c) (arcs_of m (is_present c)) (alike m lawful c n known links) (standing d) r.justified);
+            (alike_justified (within c) (arcs_in c) (arcs_of m (is_present c)) (alike m lawful c n known links) (standing d) r.justified);
         timed = subst (λ b. Timed b (standing d) d.clock) (sym here) r.timed;
       }
 
   out_here : (i x : ℕ) → Out (bound (moment c d n)) (standing d) i x → Out (within c) (standing d) i x
   out_here i x out = subst (λ b. Out b (standing d) i x) here out
 
-  rests_here : Justified (arcsIn c) (within c) (standing d) → (p i x : ℕ) → Rests (arcsIn c) (within c) (standing d) (reason_is p) i x
+  rests_here : Justified (arcs_in c) (within c) (standing d) → (p i x : ℕ) → Rests (arcs_in c) (within c) (standing d) (reason_is p) i x
       → Rests (arcs_at m (moment c d n)) (bound (moment c d n)) (standing d) (reason_is p) i x
   rests_here just p i x r =
       subst (λ b. Rests (arcs_of m (is_present c)) b (standing d) (reason_is p) i x) (sym here)
-      (alike_rests (within c) (arcsIn c) (arcs_of m (is_present c)) (alike m lawful c n known links) (standing d) (reason_is p) just i x r)
+      (alike_rests (within c) (arcs_in c) (arcs_of m (is_present c)) (alike m lawful c n known links) (standing d) (reason_is p) just i x r)
 
   wiped_here : length c.sizes ≡ 32 → (o : Option ℕ) → WipedOut (shown d) n o → WipedOut (shown d) (length (take n c.sizes)) o
   wiped_here long o w = subst (λ k. WipedOut (shown d) k o) (sym (length-take-le n c.sizes (omega (arith, links.few)))) w
@@ -128,7 +128,7 @@ module _ (m : Meaning) (lawful : Lawful m) (c c₁ c' : Constraints) (d d' : Dom
         right = right_here m lawful c' d' n known' links' added.right;
       }
 
-  pub step_retract : refusal m (moment c d n).book (spent d.clock) (retracts p rooms) ≡ None → c₁ ≡ c → Justified (arcsIn c) (within c) (standing d) → Retracted c c' d d' p k
+  pub step_retract : refusal m (moment c d n).book (spent d.clock) (retracts p rooms) ≡ None → c₁ ≡ c → Justified (arcs_in c) (within c) (standing d) → Retracted c c' d d' p k
       → Step m (moment c d n) (retracts p rooms) (Changed (record { values = k; wiped = o })) (moment c' d' n)
   step_retract none same just gone =
       record {

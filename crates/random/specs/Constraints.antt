@@ -9,7 +9,7 @@ use Rattle.random.specs.declared.sum.Sum.{Sum}
 
 -- what stands past the end of a list
 abbrev pub no_ends : Ends
-no_ends = record { left = 0; right = 1; leftLow = lit< tt; rightLow = lit< tt; apart = λ e. omega arith }
+no_ends = record { left = 0; right = 1; left_low = lit< tt; right_low = lit< tt; apart = λ e. omega arith }
 
 abbrev pub no_sum : Sum
 no_sum = record { m = 0; falling = false; lo = 0; hi = 0 }
@@ -26,8 +26,8 @@ listed count ends allows = record {
 pub listed_lawful : (count : ℕ) (ends : List Ends) (allows : ℕ → ℕ → ℕ → Bool) → Lawful (listed count ends allows)
 listed_lawful count ends allows = record {
   few = le_trans (min-le_right count 24) (lit≤ tt);
-  left_low = λ p h. (get_or ends p no_ends).leftLow;
-  right_low = λ p h. (get_or ends p no_ends).rightLow;
+  left_low = λ p h. (get_or ends p no_ends).left_low;
+  right_low = λ p h. (get_or ends p no_ends).right_low;
   apart = λ p h. (get_or ends p no_ends).apart;
 }
 

@@ -6,7 +6,7 @@ ghost use Rattle.std.specs.Prelude.{◌<◌, ◌≡◌};
 pub struct Ends {
     pub left: usize,
     pub right: usize,
-    ghost leftLow: { left < 32 },
-    ghost rightLow: { right < 32 },
+    ghost left_low: { left < 32 },
+    ghost right_low: { right < 32 },
     ghost apart: { left ≡ right → ⊥ },
 }

@@ -12,8 +12,8 @@ pub struct Sums {
     pub count: usize,
     pub ends: [Ends; 24],
     pub sums: [Sum; 24],
-    ghost allEnds: { length ends ≡ 24 },
-    ghost allSums: { length sums ≡ 24 },
+    ghost all_ends: { length ends ≡ 24 },
+    ghost all_sums: { length sums ≡ 24 },
 }
 
 // Is the sum of x and y within its bounds?

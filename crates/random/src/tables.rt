@@ -11,8 +11,8 @@ pub struct Tables {
     pub count: usize,
     pub ends: [Ends; 24],
     pub rows: [u64; 1536],
-    ghost allEnds: { length ends ≡ 24 },
-    ghost allRows: { length rows ≡ 1536 },
+    ghost all_ends: { length ends ≡ 24 },
+    ghost all_rows: { length rows ≡ 1536 },
 }
 
 impl Catalog for Tables {

@@ -9,7 +9,7 @@ use Rattle.scratch.proofs.write.Goals as goal
 pub fill-requires : goal.fill-requires
 fill-requires g c =
     let a = accepted (g.C.Catalog.meaning c.args.catalog.now) c.args.sizes.now c.args.indices.now (length c.args.res.now) c.requires in
-    record { accepted = a.each; bounded = a.bounded; len = c.no-arcs-arcs.ensures.len; off = c.no-arcs-arcs.ensures.off }
+    record { accepted = a.each; bounded = a.bounded; len = c.no_arcs-arcs.ensures.len; off = c.no_arcs-arcs.ensures.off }
 
 pub whole-requires : goal.whole-requires
 whole-requires g c =

@@ -6,8 +6,8 @@ use Rattle.domains.proofs.make.full.Goals as goal
 
 pub loop-i-init : goal.loop-i-init
 loop-i-init c = (
-  ap length c.no-sets-all.ensures,
-  λ k. omega (arith, ap (λ l. get_or l k 0) c.no-sets-all.ensures ∙ zero_at 32 k),
+  ap length c.no_sets-all.ensures,
+  λ k. omega (arith, ap (λ l. get_or l k 0) c.no_sets-all.ensures ∙ zero_at 32 k),
   λ k h x. absurd (omega arith),
 )
 

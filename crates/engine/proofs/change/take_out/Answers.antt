@@ -7,10 +7,10 @@ use Rattle.domains.proofs.Entries.{total_few}
 use Rattle.engine.proofs.Start.{queued_start}
 use Rattle.engine.proofs.change.take_out.Goals as goal
 
-pub enqueue-changed-requires : goal.enqueue-changed-requires
-enqueue-changed-requires c =
+pub enqueue_changed-requires : goal.enqueue_changed-requires
+enqueue_changed-requires c =
     record {
-      arrays = (shape_out c.args.c.now c.args.d.now c.release-through.new.d c.args.constraint c.requires.low c.requires.stands).arrays;
+      arrays = (shape_out c.args.c.now c.args.d.now c.release_through.new.d c.args.constraint c.requires.low c.requires.stands).arrays;
       queued = queued_start c.new-q.result c.unmarked-marks.result _ c.unmarked-marks.ensures c.new-q.ensures.waiting c.new-q.ensures.len c.new-q.ensures.limit c.requires.room;
     }
 
@@ -18,24 +18,24 @@ pub propagate-requires : goal.propagate-requires
 propagate-requires c =
     let n = c.args.c.now in
     let d = c.args.d.now in
-    let d' = c.release-through.new.d in
+    let d' = c.release_through.new.d in
     let p = c.args.constraint in
     record {
       shape = shape_out n d d' p c.requires.low c.requires.stands;
-      sound = sound_out n d d' p c.requires.low c.requires.stands c.release-through.ensures.released c.release-through.ensures.clock c.release-through.ensures.sized c.release-through.ensures.inside;
-      time = time_left d' c.release-through.ensures.sized (omega (arith, c.release-through.ensures.clock, c.requires.time));
-      queued = c.enqueue-changed.ensures.queued;
-      settled = settled_out n d d' p c.requires.low c.requires.stands c.release-through.ensures.released c.release-through.ensures.clock c.enqueue-changed.new.marks c.enqueue-changed.ensures.waits;
+      sound = sound_out n d d' p c.requires.low c.requires.stands c.release_through.ensures.released c.release_through.ensures.clock c.release_through.ensures.sized c.release_through.ensures.inside;
+      time = time_left d' c.release_through.ensures.sized (omega (arith, c.release_through.ensures.clock, c.requires.time));
+      queued = c.enqueue_changed.ensures.queued;
+      settled = settled_out n d d' p c.requires.low c.requires.stands c.release_through.ensures.released c.release_through.ensures.clock c.enqueue_changed.new.marks c.enqueue_changed.ensures.waits;
     }
 
 pub returns : goal.returns
 returns c =
     let n = c.args.c.now in
     let d = c.args.d.now in
-    let d' = c.release-through.new.d in
+    let d' = c.release_through.new.d in
     let d'' = c.propagate.new.d in
     let p = c.args.constraint in
-    let few : total d'.sets ≤ 64 * length d'.sets = total_few d'.sets c.release-through.ensures.sized.wide in
+    let few : total d'.sets ≤ 64 * length d'.sets = total_few d'.sets c.release_through.ensures.sized.wide in
     let stands : Stands (with_present n p _) d'' =
     record {
       shape = shape_out n d d' p c.requires.low c.requires.stands;
@@ -46,12 +46,12 @@ returns c =
     record {
       absent = refl;
       stands = stands;
-      kept = kept_out n d d' p c.requires.low c.requires.stands c.release-through.ensures.released c.release-through.ensures.clock d'' c.propagate.ensures.went;
-      grew = grew_out n d d' p c.requires.low c.requires.stands c.release-through.ensures.released c.release-through.ensures.clock d'' stands;
+      kept = kept_out n d d' p c.requires.low c.requires.stands c.release_through.ensures.released c.release_through.ensures.clock d'' c.propagate.ensures.went;
+      grew = grew_out n d d' p c.requires.low c.requires.stands c.release_through.ensures.released c.release_through.ensures.clock d'' stands;
       clock = (
-        omega (arith, c.release-through.ensures.clock, c.propagate.ensures.went.later),
-        omega (arith, few, c.release-through.ensures.sized.sets, c.release-through.ensures.clock, c.propagate.ensures.went.spent),
+        omega (arith, c.release_through.ensures.clock, c.propagate.ensures.went.later),
+        omega (arith, few, c.release_through.ensures.sized.sets, c.release_through.ensures.clock, c.propagate.ensures.went.spent),
       );
       past = search rules;
-      past-returning = c.release-through.ensures.past;
+      past_returning = c.release_through.ensures.past;
     }

@@ -7,11 +7,11 @@ pub returns-then-revise : goal.returns-then-revise
 returns-then-revise c =
     record {
       revised = c.revise.ensures.revised;
-      queued = c.enqueue-at.ensures.queued;
-      kept = c.enqueue-at.ensures.kept;
+      queued = c.enqueue_at.ensures.queued;
+      kept = c.enqueue_at.ensures.kept;
       settled =
-          settled_marked c.args.c.now c.args.d.now c.revise.new.d c.args.arc c.args.marks.now c.enqueue-at.new.marks
-          c.requires.shape c.revise.ensures.revised c.enqueue-at.ensures.more c.enqueue-at.ensures.waits c.requires.settled;
+          settled_marked c.args.c.now c.args.d.now c.revise.new.d c.args.arc c.args.marks.now c.enqueue_at.new.marks
+          c.requires.shape c.revise.ensures.revised c.enqueue_at.ensures.more c.enqueue_at.ensures.waits c.requires.settled;
       idle = λ e. absurd (changed_yes c.revise.new.d.clock c.args.d.now.clock c.if-revise.ensures.changed e);
     }
 

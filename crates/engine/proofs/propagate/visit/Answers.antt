@@ -22,11 +22,11 @@ pub returns : goal.returns
 returns c =
     let n = c.args.c.now in
     let a = c.in-Some.there in
-    let b = c.in-Some-arc-at.back in
+    let b = c.in-Some-arc_at.back in
     let d = c.args.d.now in
     let d' = c.settle.new.d in
     let d'' = c.settle-2.new.d in
-    let same : b.constraint ≡ a.constraint = c.in-Some-arc-at.ensures.2 ∙ sym c.in-Some.ensures.2 in
+    let same : b.constraint ≡ a.constraint = c.in-Some-arc_at.ensures.2 ∙ sym c.in-Some.ensures.2 in
     let ra = c.settle.ensures.revised in
     let rb = c.settle-2.ensures.revised in
     let P : ℕ → Type 0 = λ p. Supported n d'' p in
@@ -37,7 +37,7 @@ returns c =
       kept = kept_trans c.args.q.now c.settle.new.q c.settle-2.new.q c.settle.ensures.kept c.settle-2.ensures.kept;
       settled =
           settled_all n d'' c.settle-2.new.marks b.constraint
-          (subst P (sym same) (visited n d d' d'' a b c.in-Some.ensures.0 c.in-Some-arc-at.ensures.0 c.in-Some-arc-at.ensures.1 same ra rb))
+          (subst P (sym same) (visited n d d' d'' a b c.in-Some.ensures.0 c.in-Some-arc_at.ensures.0 c.in-Some-arc_at.ensures.1 same ra rb))
           c.settle-2.ensures.settled;
       idle = λ e.
           let e' : d'.clock ≡ d.clock = omega (arith, e, ra.went.later, rb.went.later) in

@@ -14,12 +14,12 @@ loop-p-preserved c =
     let v = c.args.returning in
     let p = c.loop-p.p in
     let P : Domains → Queue Returning → Type 0 = λ e r. Beside n d e q r v (p + 1) in
-    elim c.match-arc-at.branch [
+    elim c.match-arc_at.branch [
       | in-Some w ↦
           subst₂ P (sym w.d-is) (sym w.q-is)
-          (beside_more n d c.loop-p.d w.free-among.new.d q c.loop-p.q w.free-among.new.q v p w.in-Some.arc c.requires.shape
+          (beside_more n d c.loop-p.d w.free_among.new.d q c.loop-p.q w.free_among.new.q v p w.in-Some.arc c.requires.shape
           w.in-Some.ensures.0 w.in-Some.ensures.1 w.in-Some.ensures.2 c.requires.low.1
-          w.free-among.ensures.roomy w.free-among.ensures.grew w.free-among.ensures.frees w.free-among.ensures.freed c.loop-p.invariant)
+          w.free_among.ensures.roomy w.free_among.ensures.grew w.free_among.ensures.frees w.free_among.ensures.freed c.loop-p.invariant)
       | in-default w ↦
           subst₂ P (sym w.d-is) (sym w.q-is)
           (beside_skip n d c.loop-p.d q c.loop-p.q v p c.requires.shape w.in-default.ensures c.loop-p.invariant)

@@ -7,8 +7,8 @@ use Rattle.domains.proofs.Revise.{total_positive, support_yes, support_no, revis
 use Rattle.engine.proofs.revise.revise.Goals as goal
 use Rattle.engine.proofs.revise.revise.Goals.{then-has+then-supports-c-eq0, then-has+else-supports-c-eq0, else-has}
 
-pub put-out-requires : goal.put-out-requires
-put-out-requires c =
+pub put_out-requires : goal.put_out-requires
+put_out-requires c =
     let was : shown c.loop-x.d c.args.arc.near c.loop-x.x ≡ true = sym c.if-has.ensures in
     let some = total_positive c.loop-x.d c.args.arc.near c.loop-x.x c.requires.facing.near_low c.loop-x-test.true c.loop-x.invariant.sound.sized was in
     record {
@@ -28,9 +28,9 @@ loop-x-preserved c =
     elim c.if-has.branch [
       | then-has+then-supports-c-eq0 w ↦
           subst P (sym w.d-is)
-          (revising_out n d c.loop-x.d w.put-out.new.d a x c.requires.facing c.loop-x.invariant w.put-out.ensures.put
+          (revising_out n d c.loop-x.d w.put_out.new.d a x c.requires.facing c.loop-x.invariant w.put_out.ensures.put
           (support_no n d a c.requires.facing c.requires.sound.sized x c.loop-x-test.true w.if-supports-c-eq0.true)
-          w.put-out.ensures.sized w.put-out.ensures.clock w.put-out.ensures.fewer w.put-out.ensures.others)
+          w.put_out.ensures.sized w.put_out.ensures.clock w.put_out.ensures.fewer w.put_out.ensures.others)
       | then-has+else-supports-c-eq0 w ↦
           subst P (sym w.d-is)
           (revising_keep n d c.loop-x.d a x

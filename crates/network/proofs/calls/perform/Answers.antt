@@ -17,13 +17,13 @@ loop-call-preserved g c =
       subst (λ v. Linked (g.C.Catalog.meaning v) did.new.network.state) (sym did.ensures.catalog) took.linked,
       did.ensures.catalog ∙ inv.1,
       call_more (g.C.Catalog.meaning c.new-network.result.catalog) (g.C.Catalog.meaning now.catalog) (moment_of c.new-network.result.state) c.args.calls.now c.loop-call.call-index _
-          (rooms_of c.args.waiting.now c.args.returning.now) (rooms_of c.loop-call.waiting c.loop-call.returning) (vec_items c.loop-call.answers) (vec_items c.push-reserved.new.self) did.result
+          (rooms_of c.args.waiting.now c.args.returning.now) (rooms_of c.loop-call.waiting c.loop-call.returning) (vec_items c.loop-call.answers) (vec_items c.push_reserved.new.self) did.result
           now.state did.new.network.state (omega arith) (same_rooms c.args.waiting.now c.loop-call.waiting c.args.returning.now c.loop-call.returning inv.3 inv.4)
-          (ap g.C.Catalog.meaning inv.1) c.push-reserved.ensures.items inv.2 took,
+          (ap g.C.Catalog.meaning inv.1) c.push_reserved.ensures.items inv.2 took,
       past_trans 128 c.args.waiting.now c.loop-call.waiting did.new.waiting inv.3 did.ensures.past,
-      past_trans 2048 c.args.returning.now c.loop-call.returning did.new.returning inv.4 did.ensures.past-returning,
-      omega (arith, c.push-reserved.ensures.len, inv.5),
-      omega (arith, c.push-reserved.ensures.capacity, inv.6),
+      past_trans 2048 c.args.returning.now c.loop-call.returning did.new.returning inv.4 did.ensures.past_returning,
+      omega (arith, c.push_reserved.ensures.len, inv.5),
+      omega (arith, c.push_reserved.ensures.capacity, inv.6),
     )
 
 pub returns : goal.returns
@@ -44,5 +44,5 @@ returns g c =
                 subst (λ v. History (g.C.Catalog.meaning made.result.catalog) (moment_of made.result.state) (calls_of rooms v) (vec_items c.loop-call.answers) (moment_of c.loop-call.network.state)) all inv.2;
           });
       past = inv.3;
-      past-returning = inv.4;
+      past_returning = inv.4;
     }

@@ -7,5 +7,5 @@ use Rattle.runner.proofs.listing.add_call.Goals as goal
 pub returns : goal.returns
 returns c =
     λ rooms.
-    ap (calls_of rooms) (pushed (c.args.call ∷ []) refl c.in-ok-push.was c.push.ensures.items)
+    ap (calls_of rooms) (pushed (c.args.call ∷ []) refl c.in_ok-push.was c.push.ensures.items)
     ∙ map_push (call_of rooms) (vec_items c.args.calls.now) c.args.call

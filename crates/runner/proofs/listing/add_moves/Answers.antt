@@ -8,8 +8,8 @@ use Rattle.runner.proofs.listing.add_moves.Goals as goal
 pub loop-m-preserved : goal.loop-m-preserved
 loop-m-preserved c =
     λ rooms.
-    move_more rooms (calls_of rooms (vec_items c.args.calls.now)) (calls_of rooms (vec_items c.loop-m.calls)) (calls_of rooms (vec_items c.add-call.new.calls))
-    c.args.moves.now c.loop-m.m-index _ (call_of rooms c.call-of.result) c.loop-m-test.true (c.loop-m.invariant rooms) (c.in-ok-add-call.ensures rooms) (c.call-of.ensures rooms)
+    move_more rooms (calls_of rooms (vec_items c.args.calls.now)) (calls_of rooms (vec_items c.loop-m.calls)) (calls_of rooms (vec_items c.add_call.new.calls))
+    c.args.moves.now c.loop-m.m-index _ (call_of rooms c.call_of.result) c.loop-m-test.true (c.loop-m.invariant rooms) (c.in_ok-add_call.ensures rooms) (c.call_of.ensures rooms)
 
 pub returns : goal.returns
 returns c =

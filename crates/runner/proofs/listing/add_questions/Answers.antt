@@ -10,8 +10,8 @@ loop-i-init c = λ rooms. no_questions (calls_of rooms (vec_items c.args.calls.n
 pub loop-i-preserved : goal.loop-i-preserved
 loop-i-preserved c =
     λ rooms.
-    question_more (calls_of rooms (vec_items c.args.calls.now)) (calls_of rooms (vec_items c.loop-i.calls)) (calls_of rooms (vec_items c.add-call.new.calls)) c.loop-i.i
-    (c.loop-i.invariant rooms) (c.in-ok-add-call.ensures rooms)
+    question_more (calls_of rooms (vec_items c.args.calls.now)) (calls_of rooms (vec_items c.loop-i.calls)) (calls_of rooms (vec_items c.add_call.new.calls)) c.loop-i.i
+    (c.loop-i.invariant rooms) (c.in_ok-add_call.ensures rooms)
 
 pub returns : goal.returns
 returns c =

@@ -6,4 +6,4 @@ use Rattle.scratch.proofs.fill.rows.Given as goal
 abbrev pub invariant-loop-x : goal.invariant-loop-x
 invariant-loop-x g l =
     (length l.rows ≡ 64)
-    × ((z y : ℕ) → z < l.x → y < l.right-size → has_bit (get_or l.rows z 0) y ≡ allowed (g.C.Catalog.meaning l.catalog) l.p z y)
+    × ((z y : ℕ) → z < l.x → y < l.right_size → has_bit (get_or l.rows z 0) y ≡ allowed (g.C.Catalog.meaning l.catalog) l.p z y)

@@ -10,26 +10,26 @@ use Rattle.sheet.specs.Advance.{placed_result}
 use Rattle.sheet.proofs.Answered.{read_ok, flow_ok, left_shorter, goes_on, ends_here}
 use Rattle.sheet.proofs.checking.advance.Goals as goal
 
-pub overflow-sub-length : goal.overflow-sub-length
-overflow-sub-length c =
-    let e : reading c.args.input.now c.args.place ≡ taken (shown_by c.in-ok-taken.taken) c.in-ok-taken.rest.now =
-    read_ok c.args.place c.args.records c.read-record.result _ _ _ c.read-record.ensures c.in-ok-taken.ensures in
-    let s : length c.in-ok-taken.rest.now + 4 ≤ length c.args.input.now =
-    (left_shorter c.args.input.now c.args.place (shown_by c.in-ok-taken.taken) c.in-ok-taken.rest.now e).0 in
+pub overflow_sub-length : goal.overflow_sub-length
+overflow_sub-length c =
+    let e : reading c.args.input.now c.args.place ≡ taken (shown_by c.in_ok-taken.taken) c.in_ok-taken.rest.now =
+    read_ok c.args.place c.args.records c.read_record.result _ _ _ c.read_record.ensures c.in_ok-taken.ensures in
+    let s : length c.in_ok-taken.rest.now + 4 ≤ length c.args.input.now =
+    (left_shorter c.args.input.now c.args.place (shown_by c.in_ok-taken.taken) c.in_ok-taken.rest.now e).0 in
     omega arith
 
 pub returns-in-Goes : goal.returns-in-Goes
 returns-in-Goes c =
     let xs : List ℕ = c.args.input.now in
-    let rest : List ℕ = c.in-ok-taken.rest.now in
+    let rest : List ℕ = c.in_ok-taken.rest.now in
     let g : Tally = tally_of c.args.progress in
-    let e : reading xs c.args.place ≡ taken (shown_by c.in-ok-taken.taken) rest =
-    read_ok c.args.place c.args.records c.read-record.result _ _ _ c.read-record.ensures c.in-ok-taken.ensures in
-    let f : goes (tally_of c.in-Goes.next) ≡ step g (shown_by c.in-ok-taken.taken) (c.args.place + (length xs - length rest)) =
+    let e : reading xs c.args.place ≡ taken (shown_by c.in_ok-taken.taken) rest =
+    read_ok c.args.place c.args.records c.read_record.result _ _ _ c.read_record.ensures c.in_ok-taken.ensures in
+    let f : goes (tally_of c.in-Goes.next) ≡ step g (shown_by c.in_ok-taken.taken) (c.args.place + (length xs - length rest)) =
     ap (λ w. flow_of (Ok w)) (sym c.in-Goes.is)
-    ∙ flow_ok c.admit.result c.in-ok-flow.flow c.args.place c.args.records _ c.admit.ensures
-    (sym c.in-ok-flow.was ∙ c.after-records-2.ensures ∙ ap (λ r. counted_result r c.args.records) c.placed.ensures) in
-    let s : length rest + 4 ≤ length xs = (left_shorter xs c.args.place (shown_by c.in-ok-taken.taken) rest e).0 in (
+    ∙ flow_ok c.admit.result c.in_ok-flow.flow c.args.place c.args.records _ c.admit.ensures
+    (sym c.in_ok-flow.was ∙ c.after_records-2.ensures ∙ ap (λ r. counted_result r c.args.records) c.placed.ensures) in
+    let s : length rest + 4 ≤ length xs = (left_shorter xs c.args.place (shown_by c.in_ok-taken.taken) rest e).0 in (
       (λ go. goes_on go g (tally_of c.in-Goes.next) xs c.args.place c.args.records _ rest e f),
       omega arith,
       omega arith,
@@ -39,12 +39,12 @@ returns-in-Goes c =
 pub returns-then-rest-ne0 : goal.returns-then-rest-ne0
 returns-then-rest-ne0 c =
     let xs : List ℕ = c.args.input.now in
-    let rest : List ℕ = c.in-ok-taken.rest.now in
+    let rest : List ℕ = c.in_ok-taken.rest.now in
     let g : Tally = tally_of c.args.progress in
-    let e : reading xs c.args.place ≡ taken (shown_by c.in-ok-taken.taken) rest =
-    read_ok c.args.place c.args.records c.read-record.result _ _ _ c.read-record.ensures c.in-ok-taken.ensures in
-    let f : ends ≡ step g (shown_by c.in-ok-taken.taken) (c.args.place + (length xs - length rest)) =
+    let e : reading xs c.args.place ≡ taken (shown_by c.in_ok-taken.taken) rest =
+    read_ok c.args.place c.args.records c.read_record.result _ _ _ c.read_record.ensures c.in_ok-taken.ensures in
+    let f : ends ≡ step g (shown_by c.in_ok-taken.taken) (c.args.place + (length xs - length rest)) =
     ap (λ w. flow_of (Ok w)) (sym c.in-Ends.is)
-    ∙ flow_ok c.admit.result c.in-ok-flow.flow c.args.place c.args.records _ c.admit.ensures
-    (sym c.in-ok-flow.was ∙ c.after-records-2.ensures ∙ ap (λ r. counted_result r c.args.records) c.placed.ensures) in
+    ∙ flow_ok c.admit.result c.in_ok-flow.flow c.args.place c.args.records _ c.admit.ensures
+    (sym c.in_ok-flow.was ∙ c.after_records-2.ensures ∙ ap (λ r. counted_result r c.args.records) c.placed.ensures) in
     λ go. ends_here go g xs c.args.place c.args.records _ rest e f ∙ cond-false (eqb (length rest) 0) _ _ (ne_eqb (length rest) 0 c.if-rest-ne0.true)

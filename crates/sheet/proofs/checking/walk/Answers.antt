@@ -7,13 +7,13 @@ use Rattle.sheet.specs.Advance.{Advanced, onward}
 use Rattle.sheet.proofs.Answered.{walk_more}
 use Rattle.sheet.proofs.checking.walk.Goals as goal
 
-pub returns-in-err-summary : goal.returns-in-err-summary
-returns-in-err-summary c =
+pub returns-in_err-summary : goal.returns-in_err-summary
+returns-in_err-summary c =
     let sheet : List ℕ = c.args.sheet.now in
     let p = err_from_is_err_and c.from-residual.result c.from-residual.ensures.1 in
     p.1
     ∙ ap Err p.2
-    ∙ sym (c.in-err-summary.ensures (walked (suc (length sheet) - (c.loop-summary.records + 1))))
+    ∙ sym (c.in_err-summary.ensures (walked (suc (length sheet) - (c.loop-summary.records + 1))))
     ∙ sym (walk_more sheet c.loop-summary.input.now c.loop-summary.place c.loop-summary.records (tally_of c.loop-summary.progress) (omega arith))
     ∙ c.loop-summary.invariant.0
 
@@ -23,7 +23,7 @@ returns-in-Done c =
     let xs : List ℕ = c.loop-summary.input.now in
     let g : Tally = tally_of c.loop-summary.progress in
     sym
-    (subst (λ w. Advanced g xs c.loop-summary.place c.loop-summary.records (Ok w)) c.in-Done.is c.in-ok-summary.ensures
+    (subst (λ w. Advanced g xs c.loop-summary.place c.loop-summary.records (Ok w)) c.in-Done.is c.in_ok-summary.ensures
     (walked (suc (length sheet) - (c.loop-summary.records + 1))))
     ∙ sym (walk_more sheet xs c.loop-summary.place c.loop-summary.records g (omega arith))
     ∙ c.loop-summary.invariant.0
@@ -33,7 +33,7 @@ loop-summary-preserved c =
     let sheet : List ℕ = c.args.sheet.now in
     let xs : List ℕ = c.loop-summary.input.now in
     let g : Tally = tally_of c.loop-summary.progress in
-    let a = subst (λ w. Advanced g xs c.loop-summary.place c.loop-summary.records (Ok w)) c.in-More.is c.in-ok-summary.ensures in
+    let a = subst (λ w. Advanced g xs c.loop-summary.place c.loop-summary.records (Ok w)) c.in-More.is c.in_ok-summary.ensures in
     let low = a.1 in
     let high = a.2 in
     let moves = a.3 in

@@ -6,7 +6,7 @@ use Rattle.sheet_catalog.proofs.starts.constraint_at.Goals as goal
 
 pub returns-in-Ok : goal.returns-in-Ok
 returns-in-Ok c =
-    c.constraint-in.ensures
+    c.constraint_in.ensures
     ∙ sym (ap constraint_read c.in-Ok.ensures)
     ∙ ap (λ ys. constraint_read (reading ys c.args.start)) (take_rest c.args.bytes.now c.args.start)
 

@@ -2,8 +2,8 @@ use Rattle.std.proofs.Common.{◌≡◌, ℤ, pos, negsuc, ◌*ℤ◌, ◌≤ℤ
 use Rattle.sheet_catalog.proofs.Terms.{Small, product_small, small_fits, coded, coded_value}
 use Rattle.sheet_catalog.proofs.view.term.Goals as goal
 
-pub overflow-mul-result : goal.overflow-mul-result
-overflow-mul-result c =
+pub overflow_mul-result : goal.overflow_mul-result
+overflow_mul-result c =
     subst (SFits w64) (sym (coded c.args.factor c.args.value c.ranges.factor c.requires))
     (small_fits (c.args.factor *ℤ pos c.args.value) (product_small c.args.factor c.args.value c.ranges.factor c.requires))
 

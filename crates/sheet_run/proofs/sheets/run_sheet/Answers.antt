@@ -14,9 +14,9 @@ returns c =
     record {
       sizes = listed c.of-sizes.result;
       sized = c.of-sizes.ensures;
-      moved = c.in-ok-moves.ensures;
+      moved = c.in_ok-moves.ensures;
       run =
-          subst (λ (ms : List Move). Run (pile_of c.args.sheet.now) (calls_for rooms (listed c.of-sizes.result) ms) (vec_items c.in-ok-answers.answers)) c.as-slice-2.ensures.value
-          (subst (λ (ss : List ℕ). Run (pile_of c.args.sheet.now) (calls_for rooms ss c.as-slice-2.result.now) (vec_items c.in-ok-answers.answers)) c.as-slice.ensures
-          (subst (λ (m : Meaning). Run m (calls_for rooms c.as-slice.result.now c.as-slice-2.result.now) (vec_items c.in-ok-answers.answers)) c.pile.ensures c.in-ok-answers.ensures));
+          subst (λ (ms : List Move). Run (pile_of c.args.sheet.now) (calls_for rooms (listed c.of-sizes.result) ms) (vec_items c.in_ok-answers.answers)) c.as_slice-2.ensures.value
+          (subst (λ (ss : List ℕ). Run (pile_of c.args.sheet.now) (calls_for rooms ss c.as_slice-2.result.now) (vec_items c.in_ok-answers.answers)) c.as_slice.ensures
+          (subst (λ (m : Meaning). Run m (calls_for rooms c.as_slice.result.now c.as_slice-2.result.now) (vec_items c.in_ok-answers.answers)) c.pile.ensures c.in_ok-answers.ensures));
     }

@@ -4,23 +4,23 @@ use Rattle.scratch.specs.Named.{named}
 use Rattle.sheetpile.specs.Counts.{is_inside}
 use Rattle.sheetpile.proofs.Counted.{inside_yes, inside_no}
 use Rattle.sheetpile.proofs.counting.inside.Goals as goal
-use Rattle.sheetpile.proofs.counting.inside.Goals.{then-lies-inside+in-ok-push, else-lies-inside}
+use Rattle.sheetpile.proofs.counting.inside.Goals.{then-lies_inside+in_ok-push, else-lies_inside}
 
 pub loop-p-preserved : goal.loop-p-preserved
 loop-p-preserved g c =
     let m = g.C.Catalog.meaning c.args.catalog.now in
-    elim c.if-lies-inside.branch [
-      | then-lies-inside+in-ok-push w ↦ λ q.
+    elim c.if-lies_inside.branch [
+      | then-lies_inside+in_ok-push w ↦ λ q.
           ap (λ v. named (vec_items v) q) w.indices-is
-          ∙ ap (λ xs. named xs q) w.in-ok-push.ensures.items
-          ∙ inside_yes m c.args.n c.loop-p.p (vec_items c.loop-p.indices) w.if-lies-inside.ensures c.loop-p.invariant q
-      | else-lies-inside w ↦ λ q.
+          ∙ ap (λ xs. named xs q) w.in_ok-push.ensures.items
+          ∙ inside_yes m c.args.n c.loop-p.p (vec_items c.loop-p.indices) w.if-lies_inside.ensures c.loop-p.invariant q
+      | else-lies_inside w ↦ λ q.
           ap (λ v. named (vec_items v) q) w.indices-is
-          ∙ inside_no m c.args.n c.loop-p.p (vec_items c.loop-p.indices) w.if-lies-inside.ensures c.loop-p.invariant q
+          ∙ inside_no m c.args.n c.loop-p.p (vec_items c.loop-p.indices) w.if-lies_inside.ensures c.loop-p.invariant q
     ]
 
-pub returns-in-err-push : goal.returns-in-err-push
-returns-in-err-push g c =
+pub returns-in_err-push : goal.returns-in_err-push
+returns-in_err-push g c =
     IfOk-from_err c.from-residual.result
     (λ v. (q : ℕ) → named (vec_items v) q ≡ is_inside (g.C.Catalog.meaning c.args.catalog.now) c.args.n q)
     c.from-residual.ensures.0

@@ -4,4 +4,4 @@ use Rattle.sheetpile.proofs.counting.pairs.Given as goal
 
 -- so many so far
 abbrev pub invariant-loop-x : goal.invariant-loop-x
-invariant-loop-x g l = (l.n ≡ pair_count (g.C.Catalog.meaning l.catalog) l.p l.right-size l.x) × (l.n ≤ 64 * l.x)
+invariant-loop-x g l = (l.n ≡ pair_count (g.C.Catalog.meaning l.catalog) l.p l.right_size l.x) × (l.n ≤ 64 * l.x)

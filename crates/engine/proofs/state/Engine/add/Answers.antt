@@ -3,16 +3,16 @@ use Rattle.domains.proofs.Props.{stands_out}
 use Rattle.engine.proofs.Called.{addable, right_now}
 use Rattle.engine.proofs.state.Engine.add.Goals as goal
 
-pub can-add-requires : goal.can-add-requires
-can-add-requires c = (stands_out c.args.self.now.constraints c.args.self.now.domains c.args.self.now.stands).shape.arrays
+pub can_add-requires : goal.can_add-requires
+can_add-requires c = (stands_out c.args.self.now.constraints c.args.self.now.domains c.args.self.now.stands).shape.arrays
 
-pub returns-then-not-can-add : goal.returns-then-not-can-add
-returns-then-not-can-add c =
-    record { can = c.if-not-can-add.ensures; added = (refl, refl, refl); past = record { long = refl; rest = refl } }
+pub returns-then-not-can_add : goal.returns-then-not-can_add
+returns-then-not-can_add c =
+    record { can = c.if-not-can_add.ensures; added = (refl, refl, refl); past = record { long = refl; rest = refl } }
 
-pub put-in-requires : goal.put-in-requires
-put-in-requires c =
-    let a = addable c.args.self.now.constraints c.args.self.now.domains c.args.constraint (length c.args.waiting.now) c.if-not-can-add.ensures in
+pub put_in-requires : goal.put_in-requires
+put_in-requires c =
+    let a = addable c.args.self.now.constraints c.args.self.now.domains c.args.constraint (length c.args.waiting.now) c.if-not-can_add.ensures in
     record {
       low = a.low;
       apart = a.apart;
@@ -22,18 +22,18 @@ put-in-requires c =
     }
 
 pub invariant-of-self-2 : goal.invariant-of-self-2
-invariant-of-self-2 c = (∣ c.put-in.ensures.stands ∣₁, tt)
+invariant-of-self-2 c = (∣ c.put_in.ensures.stands ∣₁, tt)
 
 pub returns : goal.returns
 returns c =
     record {
-      can = c.if-not-can-add.ensures;
+      can = c.if-not-can_add.ensures;
       added =
           record {
-            constraints = c.put-in.ensures.present;
-            right = right_now c.put-in.new.c c.put-in.new.d c.put-in.ensures.stands;
-            went = c.put-in.ensures.went;
-            count = omega (arith, c.put-in.ensures.went.later);
+            constraints = c.put_in.ensures.present;
+            right = right_now c.put_in.new.c c.put_in.new.d c.put_in.ensures.stands;
+            went = c.put_in.ensures.went;
+            count = omega (arith, c.put_in.ensures.went.later);
           };
-      past = c.put-in.ensures.past;
+      past = c.put_in.ensures.past;
     }

@@ -8,4 +8,4 @@ use Rattle.engine.proofs.state.Engine.new.Goals as goal
 pub invariant-of-result : goal.invariant-of-result
 invariant-of-result c =
     let P : Constraints → Domains → Type 0 = λ n d. Stands n d in
-    (∣ subst₂ P (sym c.no-constraints.ensures) (sym c.no-domains.ensures) stands_none ∣₁, tt)
+    (∣ subst₂ P (sym c.no_constraints.ensures) (sym c.no_domains.ensures) stands_none ∣₁, tt)

@@ -4,26 +4,26 @@ use Rattle.domains.proofs.Props.{stands_out}
 use Rattle.engine.proofs.Called.{retractable, right_now, more_shown}
 use Rattle.engine.proofs.state.Engine.retract.Goals as goal
 
-pub can-retract-requires : goal.can-retract-requires
-can-retract-requires c = (stands_out c.args.self.now.constraints c.args.self.now.domains c.args.self.now.stands).shape.arrays
+pub can_retract-requires : goal.can_retract-requires
+can_retract-requires c = (stands_out c.args.self.now.constraints c.args.self.now.domains c.args.self.now.stands).shape.arrays
 
-pub returns-then-not-can-retract : goal.returns-then-not-can-retract
-returns-then-not-can-retract c =
+pub returns-then-not-can_retract : goal.returns-then-not-can_retract
+returns-then-not-can_retract c =
     record {
-      can = c.if-not-can-retract.ensures;
+      can = c.if-not-can_retract.ensures;
       retracted = (refl, refl, refl, refl);
       past = record { long = refl; rest = refl };
-      past-returning = record { long = refl; rest = refl };
+      past_returning = record { long = refl; rest = refl };
     }
 
 pub count-before-requires : goal.count-before-requires
 count-before-requires c = (stands_out c.args.self.now.constraints c.args.self.now.domains c.args.self.now.stands).sound.sized
 
-pub take-out-requires : goal.take-out-requires
-take-out-requires c =
+pub take_out-requires : goal.take_out-requires
+take_out-requires c =
     let a =
     retractable c.args.self.now.constraints c.args.self.now.domains c.args.constraint (length c.args.waiting.now) (length c.args.returning.now)
-    c.if-not-can-retract.ensures
+    c.if-not-can_retract.ensures
     in
     record {
       low = a.low;
@@ -34,40 +34,40 @@ take-out-requires c =
     }
 
 pub count-requires : goal.count-requires
-count-requires c = c.take-out.ensures.stands.sound.sized
+count-requires c = c.take_out.ensures.stands.sound.sized
 
-pub overflow-sub-result : goal.overflow-sub-result
-overflow-sub-result c = omega (
+pub overflow_sub-result : goal.overflow_sub-result
+overflow_sub-result c = omega (
   arith,
-  more_shown c.args.self.now.constraints c.take-out.new.c c.args.self.now.domains c.take-out.new.d
-      (stands_out c.args.self.now.constraints c.args.self.now.domains c.args.self.now.stands) c.take-out.ensures.stands c.take-out.ensures.grew,
+  more_shown c.args.self.now.constraints c.take_out.new.c c.args.self.now.domains c.take_out.new.d
+      (stands_out c.args.self.now.constraints c.args.self.now.domains c.args.self.now.stands) c.take_out.ensures.stands c.take_out.ensures.grew,
   c.count.ensures,
   c.count-before.ensures,
 )
 
 pub invariant-of-self-2 : goal.invariant-of-self-2
-invariant-of-self-2 c = (∣ c.take-out.ensures.stands ∣₁, tt)
+invariant-of-self-2 c = (∣ c.take_out.ensures.stands ∣₁, tt)
 
 pub returns : goal.returns
 returns c =
     record {
-      can = c.if-not-can-retract.ensures;
+      can = c.if-not-can_retract.ensures;
       retracted =
           record {
-            constraints = c.take-out.ensures.absent;
-            right = right_now c.take-out.new.c c.take-out.new.d c.take-out.ensures.stands;
-            grew = c.take-out.ensures.grew;
-            kept = c.take-out.ensures.kept;
-            later = c.take-out.ensures.clock.0;
-            soon = c.take-out.ensures.clock.1;
+            constraints = c.take_out.ensures.absent;
+            right = right_now c.take_out.new.c c.take_out.new.d c.take_out.ensures.stands;
+            grew = c.take_out.ensures.grew;
+            kept = c.take_out.ensures.kept;
+            later = c.take_out.ensures.clock.0;
+            soon = c.take_out.ensures.clock.1;
             count = omega (
               arith,
-              more_shown c.args.self.now.constraints c.take-out.new.c c.args.self.now.domains c.take-out.new.d
-                  (stands_out c.args.self.now.constraints c.args.self.now.domains c.args.self.now.stands) c.take-out.ensures.stands c.take-out.ensures.grew,
+              more_shown c.args.self.now.constraints c.take_out.new.c c.args.self.now.domains c.take_out.new.d
+                  (stands_out c.args.self.now.constraints c.args.self.now.domains c.args.self.now.stands) c.take_out.ensures.stands c.take_out.ensures.grew,
               c.count.ensures,
               c.count-before.ensures,
             );
           };
-      past = c.take-out.ensures.past;
-      past-returning = c.take-out.ensures.past-returning;
+      past = c.take_out.ensures.past;
+      past_returning = c.take_out.ensures.past_returning;
     }

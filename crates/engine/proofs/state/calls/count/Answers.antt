@@ -3,8 +3,8 @@ use lib.Count.{ones, ones-le}
 use Rattle.domains.proofs.Entries.{total-take, total_all}
 use Rattle.engine.proofs.state.calls.count.Goals as goal
 
-pub overflow-add-n : goal.overflow-add-n
-overflow-add-n c = omega (arith, ones-le 64 (get_or c.args.d.now.sets c.loop-i.i 0) (c.requires.wide c.loop-i.i), c.loop-i.invariant.1, c.loop-i-test.true)
+pub overflow_add-n : goal.overflow_add-n
+overflow_add-n c = omega (arith, ones-le 64 (get_or c.args.d.now.sets c.loop-i.i 0) (c.requires.wide c.loop-i.i), c.loop-i.invariant.1, c.loop-i-test.true)
 
 pub loop-i-preserved : goal.loop-i-preserved
 loop-i-preserved c = (

@@ -4,8 +4,8 @@ use Rattle.std.proofs.lemmas.Bool.{both_ways}
 use Rattle.network_model.proofs.Changing.{add_refused, add_took, may_add}
 use Rattle.network.proofs.network.Network.add.Goals as goal
 
-pub returns-in-err-left : goal.returns-in-err-left
-returns-in-err-left g c =
+pub returns-in_err-left : goal.returns-in_err-left
+returns-in_err-left g c =
     let p = err_from_is_err_and c.from-residual.result c.from-residual.ensures.1 in
     let n = c.args.self.now in
     rw p.1
@@ -13,7 +13,7 @@ returns-in-err-left g c =
       catalog = refl;
       performs = λ linked.
           add_refused (g.C.Catalog.meaning n.catalog) (g.C.Catalog.lawful n.catalog) n.state c.args.constraint c.args.waiting.now c.args.returning.now linked p.0
-          (ap Some p.2 ∙ c.in-err-left.ensures.refused);
+          (ap Some p.2 ∙ c.in_err-left.ensures.refused);
       past = record { long = refl; rest = refl };
       returning = refl;
       refused = λ linked. (refl, refl);
@@ -24,15 +24,15 @@ returns g c =
     let n = c.args.self.now in
     let m = g.C.Catalog.meaning n.catalog in
     let lawful = g.C.Catalog.lawful n.catalog in
-    let free = c.in-ok-left.ensures.refused in
+    let free = c.in_ok-left.ensures.refused in
     record {
       catalog = refl;
       performs = λ linked.
-          add_took m lawful n.state c.args.constraint c.args.waiting.now c.args.returning.now linked c.put-in.new.state c.know.new.state c.put-in.result free
-          (c.know.ensures linked) c.put-in.ensures.added c.put-in.ensures.kept.0 c.put-in.ensures.kept.1;
-      past = c.put-in.ensures.past;
+          add_took m lawful n.state c.args.constraint c.args.waiting.now c.args.returning.now linked c.put_in.new.state c.know.new.state c.put_in.result free
+          (c.know.ensures linked) c.put_in.ensures.added c.put_in.ensures.kept.0 c.put_in.ensures.kept.1;
+      past = c.put_in.ensures.past;
       returning = refl;
       refused = λ linked.
-          MatchResult-weaker c.put-in.result c.put-in.ensures.added (λ v did. tt)
+          MatchResult-weaker c.put_in.result c.put_in.ensures.added (λ v did. tt)
           (λ e cannot. absurd (both_ways _ cannot (may_add m lawful n.state c.args.constraint c.args.waiting.now c.args.returning.now linked c.know.new.state free (c.know.ensures linked))));
     }

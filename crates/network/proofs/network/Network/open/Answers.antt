@@ -7,8 +7,8 @@ use Rattle.network_model.proofs.Opening.{links_open, step_open}
 use Rattle.domains.proofs.Props.{stands_out}
 use Rattle.network.proofs.network.Network.open.Goals as goal
 
-pub returns-in-err-check-sizes : goal.returns-in-err-check-sizes
-returns-in-err-check-sizes g c =
+pub returns-in_err-check_sizes : goal.returns-in_err-check_sizes
+returns-in_err-check_sizes g c =
     let p = err_from_is_err_and c.from-residual.result c.from-residual.ensures.1 in
     let n = c.args.self.now in
     rw p.1
@@ -16,7 +16,7 @@ returns-in-err-check-sizes g c =
       catalog = refl;
       performs = λ linked.
           refused (g.C.Catalog.meaning n.catalog) (g.C.Catalog.lawful n.catalog) n.state linked (opens c.args.sizes.now c.args.time) p.0
-          (sym (ap Some p.2 ∙ c.in-err-check-sizes.ensures));
+          (sym (ap Some p.2 ∙ c.in_err-check_sizes.ensures));
     })
 
 pub returns : goal.returns
@@ -31,8 +31,8 @@ returns g c =
       performs = λ linked.
           record {
             linked = links_open m lawful n.state.engine.constraints e.constraints e.domains c.args.sizes.now c.narrow.result c.args.time
-                (sym c.in-ok-check-sizes.ensures) c.narrow.ensures stands.shape.arrays.sizes c.open.ensures c.none-known-self.result c.none-known-self.ensures;
+                (sym c.in_ok-check_sizes.ensures) c.narrow.ensures stands.shape.arrays.sizes c.open.ensures c.none_known-self.result c.none_known-self.ensures;
             step = step_open m lawful n.state.engine.constraints e.constraints e.domains c.args.sizes.now c.narrow.result c.args.time
-                (sym c.in-ok-check-sizes.ensures) c.narrow.ensures stands.shape.arrays.sizes c.open.ensures (moment_of n.state);
+                (sym c.in_ok-check_sizes.ensures) c.narrow.ensures stands.shape.arrays.sizes c.open.ensures (moment_of n.state);
           };
     }

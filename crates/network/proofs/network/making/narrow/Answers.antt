@@ -5,8 +5,8 @@ use Rattle.refusal.proofs.Sizes.{Fitting, sizes_accepted}
 use Rattle.network_model.proofs.Opening.{no_size}
 use Rattle.network.proofs.network.making.narrow.Goals as goal
 
-pub overflow-cast-all : goal.overflow-cast-all
-overflow-cast-all c =
+pub overflow_cast-all : goal.overflow_cast-all
+overflow_cast-all c =
     let f : Fitting c.args.sizes.now = sizes_accepted c.args.sizes.now c.requires in
     let h : get_or c.args.sizes.now c.loop-i.i 0 ≤ 64 = (f.each c.loop-i.i c.loop-i-test.true).1 in
     omega arith
@@ -20,4 +20,4 @@ returns c =
 
 pub loop-i-init : goal.loop-i-init
 loop-i-init c =
-    (ap length c.no-sizes-all.ensures ∙ length-replicate {A = ℕ} 32 0, λ k h. absurd (omega arith), λ k h. ap (λ v. get_or v k 0) c.no-sizes-all.ensures ∙ no_size 32 k)
+    (ap length c.no_sizes-all.ensures ∙ length-replicate {A = ℕ} 32 0, λ k h. absurd (omega arith), λ k h. ap (λ v. get_or v k 0) c.no_sizes-all.ensures ∙ no_size 32 k)

@@ -8,7 +8,7 @@ returns-then-variable-h c =
     let bytes = c.args.bytes.now in
     let many = many_in bytes c.args.found c.requires in
     let low : c.loop-e.e < length (decode c.args.bytes.now).variables = omega arith in
-    sym (house_here (decode bytes).variables c.loop-e.e c.args.h c.variable-at-variable.result low c.variable-at-variable.ensures c.if-variable-h.true)
+    sym (house_here (decode bytes).variables c.loop-e.e c.args.h c.variable_at-variable.result low c.variable_at-variable.ensures c.if-variable-h.true)
     ∙ c.loop-e.invariant
 
 pub loop-e-preserved : goal.loop-e-preserved
@@ -16,7 +16,7 @@ loop-e-preserved c =
     let bytes = c.args.bytes.now in
     let many = many_in bytes c.args.found c.requires in
     let low : c.loop-e.e < length (decode c.args.bytes.now).variables = omega arith in
-    house_later (decode bytes).variables c.loop-e.e c.args.h c.variable-at-variable.result low c.variable-at-variable.ensures c.if-variable-h.false
+    house_later (decode bytes).variables c.loop-e.e c.args.h c.variable_at-variable.result low c.variable_at-variable.ensures c.if-variable-h.false
     ∙ c.loop-e.invariant
 
 pub returns : goal.returns
