@@ -15,6 +15,6 @@ pub loop-i-preserved : goal.loop-i-preserved
 loop-i-preserved c =
     let P : ℕ → ℕ → Type 0 = λ k n. (x : ℕ) → has_bit n x ≡ (ltb x (get_or c.args.sizes.now k 0) && ltb x 64) in (
       length-set c.loop-i.all c.loop-i.i c.below.result ∙ c.loop-i.invariant.0,
-      set_wide c.loop-i.all c.loop-i.i c.below.result (2 ^ 64) (omega (arith, c.loop-i.invariant.0)) c.loop-i.invariant.1 c.below.type-inv,
+      set_wide c.loop-i.all c.loop-i.i c.below.result (2 ^ 64) (omega (arith, c.loop-i.invariant.0)) c.loop-i.invariant.1 c.below.type_inv,
       set_step c.loop-i.all c.loop-i.i c.below.result P (omega (arith, c.loop-i.invariant.0)) c.loop-i.invariant.2 c.below.ensures,
     )

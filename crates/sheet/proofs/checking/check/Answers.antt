@@ -13,5 +13,5 @@ returns c =
     c.walk.ensures ∙ sym (cond-false (ltb 65535 (length xs)) _ _ (le-ltb 65535 (length xs) c.if-sheet-gt65535.false)) in
     record {
       verdict = v;
-      law = subst (Law xs) (sym v) (law xs (All-from_get_or (λ b. b < 256) xs 0 (λ i _. (c.type-inv.sheet i).fits)));
+      law = subst (Law xs) (sym v) (law xs (All-from_get_or (λ b. b < 256) xs 0 (λ i _. (c.type_inv.sheet i).fits)));
     }

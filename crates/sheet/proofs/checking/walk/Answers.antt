@@ -10,7 +10,7 @@ use Rattle.sheet.proofs.checking.walk.Goals as goal
 pub returns-in_err-summary : goal.returns-in_err-summary
 returns-in_err-summary c =
     let sheet : List ℕ = c.args.sheet.now in
-    let p = err_from_is_err_and c.from-residual.result c.from-residual.ensures.1 in
+    let p = err_from_is_err_and c.from_residual.result c.from_residual.ensures.1 in
     p.1
     ∙ ap Err p.2
     ∙ sym (c.in_err-summary.ensures (walked (suc (length sheet) - (c.loop-summary.records + 1))))

@@ -21,6 +21,6 @@ loop-p-preserved g c =
 
 pub returns-in_err-push : goal.returns-in_err-push
 returns-in_err-push g c =
-    IfOk-from_err c.from-residual.result
+    IfOk-from_err c.from_residual.result
     (λ v. (q : ℕ) → named (vec_items v) q ≡ is_inside (g.C.Catalog.meaning c.args.catalog.now) c.args.n q)
-    c.from-residual.ensures.0
+    c.from_residual.ensures.0

@@ -13,4 +13,4 @@ returns-then-domain-eq0 c =
 pub loop-i-preserved : goal.loop-i-preserved
 loop-i-preserved c =
     below_more _ c.loop-i.i c.loop-i.invariant
-    (something_shown c.args.self.now.domains c.loop-i.i c.domain.result c.domain.type-inv c.domain.ensures c.if-domain-eq0.false)
+    (something_shown c.args.self.now.domains c.loop-i.i c.domain.result c.domain.type_inv c.domain.ensures c.if-domain-eq0.false)

@@ -6,7 +6,7 @@ use Rattle.network.proofs.network.Network.retract.Goals as goal
 
 pub returns-in_err-check_retract : goal.returns-in_err-check_retract
 returns-in_err-check_retract g c =
-    let p = err_from_is_err_and c.from-residual.result c.from-residual.ensures.1 in
+    let p = err_from_is_err_and c.from_residual.result c.from_residual.ensures.1 in
     let n = c.args.self.now in
     rw p.1
     (record {
