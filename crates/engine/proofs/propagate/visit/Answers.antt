@@ -5,8 +5,8 @@ use Rattle.domains.proofs.Settle.{settled_all, supported_absent, visited}
 use Rattle.engine.proofs.Marks.{kept_refl, kept_trans}
 use Rattle.engine.proofs.propagate.visit.Goals as goal
 
-pub returns-in-default : goal.returns-in-default
-returns-in-default c =
+pub returns-in_default : goal.returns-in_default
+returns-in_default c =
     record {
       sound = c.requires.sound;
       went = went_refl c.args.c.now c.args.d.now;
@@ -14,7 +14,7 @@ returns-in-default c =
       kept = kept_refl c.args.q.now;
       settled =
           settled_all c.args.c.now c.args.d.now c.args.marks.now c.args.constraint
-          (supported_absent c.args.c.now c.args.d.now c.args.constraint c.requires.shape c.in-default.ensures) c.requires.settled;
+          (supported_absent c.args.c.now c.args.d.now c.args.constraint c.requires.shape c.in_default.ensures) c.requires.settled;
       idle = λ _. refl;
     }
 

@@ -4,7 +4,7 @@ use Rattle.domains.specs.declared.Domains.{Domains}
 use Rattle.domains.specs.declared.Returning.{Returning}
 use Rattle.engine.proofs.Beside.{Beside, beside_skip, beside_more, beside_all}
 use Rattle.engine.proofs.release.free_beside.Goals as goal
-use Rattle.engine.proofs.release.free_beside.Goals.{in-Some, in-default}
+use Rattle.engine.proofs.release.free_beside.Goals.{in-Some, in_default}
 
 pub loop-p-preserved : goal.loop-p-preserved
 loop-p-preserved c =
@@ -20,9 +20,9 @@ loop-p-preserved c =
           (beside_more n d c.loop-p.d w.free_among.new.d q c.loop-p.q w.free_among.new.q v p w.in-Some.arc c.requires.shape
           w.in-Some.ensures.0 w.in-Some.ensures.1 w.in-Some.ensures.2 c.requires.low.1
           w.free_among.ensures.roomy w.free_among.ensures.grew w.free_among.ensures.frees w.free_among.ensures.freed c.loop-p.invariant)
-      | in-default w ↦
+      | in_default w ↦
           subst₂ P (sym w.d-is) (sym w.q-is)
-          (beside_skip n d c.loop-p.d q c.loop-p.q v p c.requires.shape w.in-default.ensures c.loop-p.invariant)
+          (beside_skip n d c.loop-p.d q c.loop-p.q v p c.requires.shape w.in_default.ensures c.loop-p.invariant)
     ]
 
 pub returns : goal.returns

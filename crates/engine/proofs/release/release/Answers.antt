@@ -44,7 +44,7 @@ returns c =
     c.free_among.ensures.frees p d [] (names_rest n p _ all d) (subst S (sym c.requires.empty.0) (releasing_start n p d c.requires.sound))
     in
     let r₂ : Releasing n p d d₂ (waits c.free_among-2.new.q) = c.free_among-2.ensures.frees p d [] (names_rest n p _ all d) r₁ in
-    let r₃ : Releasing n p d d₃ [] = subst E c.in-default.ensures.waiting.0 (c.loop-returning.invariant.5 p d r₂) in
+    let r₃ : Releasing n p d d₃ [] = subst E c.in_default.ensures.waiting.0 (c.loop-returning.invariant.5 p d r₂) in
     record {
       released =
           released n p d d₃ r₃
@@ -57,5 +57,5 @@ returns c =
       kept =
           kept_trans c.args.q.now c.free_among.new.q c.pop.new.self c.free_among.ensures.grew.kept
           (kept_trans c.free_among.new.q c.free_among-2.new.q c.pop.new.self c.free_among-2.ensures.grew.kept
-          (kept_trans c.free_among-2.new.q c.loop-returning.q c.pop.new.self c.loop-returning.invariant.4 c.in-default.ensures.kept));
+          (kept_trans c.free_among-2.new.q c.loop-returning.q c.pop.new.self c.loop-returning.invariant.4 c.in_default.ensures.kept));
     }

@@ -21,8 +21,8 @@ put_in-requires c =
       room = a.wide;
     }
 
-pub invariant-of-self-2 : goal.invariant-of-self-2
-invariant-of-self-2 c = (∣ c.put_in.ensures.stands ∣₁, tt)
+pub invariant_of-self-2 : goal.invariant_of-self-2
+invariant_of-self-2 c = (∣ c.put_in.ensures.stands ∣₁, tt)
 
 pub returns : goal.returns
 returns c =

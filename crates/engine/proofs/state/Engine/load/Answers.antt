@@ -7,8 +7,8 @@ use Rattle.engine.proofs.state.Engine.load.Goals as goal
 pub can_load-requires : goal.can_load-requires
 can_load-requires c = (stands_out c.args.self.now.constraints c.args.self.now.domains c.args.self.now.stands).shape.arrays
 
-pub invariant-of-self : goal.invariant-of-self
-invariant-of-self c =
+pub invariant_of-self : goal.invariant_of-self
+invariant_of-self c =
     let n = c.args.self.now.constraints in
     let d = c.args.self.now.domains in
     let s = stands_out n d c.args.self.now.stands in

@@ -5,7 +5,7 @@ use Rattle.domains.specs.Stands.{Stands}
 use Rattle.domains.proofs.Setup.{stands_none}
 use Rattle.engine.proofs.state.Engine.new.Goals as goal
 
-pub invariant-of-result : goal.invariant-of-result
-invariant-of-result c =
+pub invariant_of-result : goal.invariant_of-result
+invariant_of-result c =
     let P : Constraints → Domains → Type 0 = λ n d. Stands n d in
     (∣ subst₂ P (sym c.no_constraints.ensures) (sym c.no_domains.ensures) stands_none ∣₁, tt)

@@ -2,8 +2,8 @@ use Rattle.domains.proofs.Props.{stands_out}
 use Rattle.engine.proofs.Called.{afresh_stands, afresh_opened}
 use Rattle.engine.proofs.state.Engine.open.Goals as goal
 
-pub invariant-of-self : goal.invariant-of-self
-invariant-of-self c =
+pub invariant_of-self : goal.invariant_of-self
+invariant_of-self c =
     let n = c.args.self.now.constraints in
     let d = c.args.self.now.domains in (
       ∣ afresh_stands n d c.args.sizes.now c.capped-sizes.result c.full-sets.result c.unmarked-self.result c.args.time (stands_out n d c.args.self.now.stands)

@@ -45,8 +45,8 @@ overflow_sub-result c = omega (
   c.count-before.ensures,
 )
 
-pub invariant-of-self-2 : goal.invariant-of-self-2
-invariant-of-self-2 c = (∣ c.take_out.ensures.stands ∣₁, tt)
+pub invariant_of-self-2 : goal.invariant_of-self-2
+invariant_of-self-2 c = (∣ c.take_out.ensures.stands ∣₁, tt)
 
 pub returns : goal.returns
 returns c =
