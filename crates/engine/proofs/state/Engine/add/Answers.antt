@@ -22,7 +22,7 @@ put_in-requires c =
     }
 
 pub invariant_of-self-2 : goal.invariant_of-self-2
-invariant_of-self-2 c = (∣ c.put_in.ensures.stands ∣₁, tt)
+invariant_of-self-2 c = record { stands = ∣ c.put_in.ensures.stands ∣₁ }
 
 pub returns : goal.returns
 returns c =

@@ -15,16 +15,16 @@ invariant_of-self c =
     let a = loadable n c.args.constraint c.args.left c.args.right c.if-not-can_load.ensures in
     let p = c.args.constraint in
     let mid = c.write_rows.new.all in
-    let new = c.write_rows-2.new.all in (
-      ∣ stands_load n _ d p c.args.left c.args.right c.args.rows.now a.absent
+    let new = c.write_rows-2.new.all in
+    record {
+      stands = ∣ stands_load n _ d p c.args.left c.args.right c.args.rows.now a.absent
           (load_done n p c.args.left c.args.right n.rows mid new c.args.rows.now c.transposed-turned.result a.low s.shape refl
           c.write_rows.ensures.written c.write_rows.ensures.others c.write_rows-2.ensures.written c.write_rows-2.ensures.others c.transposed-turned.ensures.turned)
           (load_shape n p c.args.left c.args.right n.rows mid new c.args.rows.now c.transposed-turned.result a.low s.shape refl
           c.write_rows.ensures.written c.write_rows.ensures.others c.write_rows-2.ensures.written c.write_rows-2.ensures.others c.transposed-turned.ensures.turned
           a.left_low a.right_low a.apart c.write_rows-2.ensures.long)
-          s ∣₁,
-      tt,
-    )
+          s ∣₁;
+    }
 
 pub returns : goal.returns
 returns c =

@@ -8,4 +8,4 @@ use Rattle.engine.proofs.state.Engine.new.Goals as goal
 pub invariant_of-result : goal.invariant_of-result
 invariant_of-result c =
     let P : Constraints → Domains → Type 0 = λ n d. Stands n d in
-    (∣ subst₂ P (sym c.no_constraints.ensures) (sym c.no_domains.ensures) stands_none ∣₁, tt)
+    record { stands = ∣ subst₂ P (sym c.no_constraints.ensures) (sym c.no_domains.ensures) stands_none ∣₁ }

@@ -5,11 +5,11 @@ use Rattle.engine.proofs.state.Engine.open.Goals as goal
 pub invariant_of-self : goal.invariant_of-self
 invariant_of-self c =
     let n = c.args.self.now.constraints in
-    let d = c.args.self.now.domains in (
-      ∣ afresh_stands n d c.args.sizes.now c.capped-sizes.result c.full-sets.result c.unmarked-self.result c.args.time (stands_out n d c.args.self.now.stands)
-          c.unmarked-self.ensures c.capped-sizes.ensures.long c.capped-sizes.ensures.sizes c.full-sets.ensures.wide c.full-sets.ensures.long c.full-sets.ensures.shown ∣₁,
-      tt,
-    )
+    let d = c.args.self.now.domains in
+    record {
+      stands = ∣ afresh_stands n d c.args.sizes.now c.capped-sizes.result c.full-sets.result c.unmarked-self.result c.args.time (stands_out n d c.args.self.now.stands)
+          c.unmarked-self.ensures c.capped-sizes.ensures.long c.capped-sizes.ensures.sizes c.full-sets.ensures.wide c.full-sets.ensures.long c.full-sets.ensures.shown ∣₁;
+    }
 
 pub returns : goal.returns
 returns c =

@@ -46,7 +46,7 @@ overflow_sub-result c = omega (
 )
 
 pub invariant_of-self-2 : goal.invariant_of-self-2
-invariant_of-self-2 c = (∣ c.take_out.ensures.stands ∣₁, tt)
+invariant_of-self-2 c = record { stands = ∣ c.take_out.ensures.stands ∣₁ }
 
 pub returns : goal.returns
 returns c =
