@@ -28,10 +28,10 @@ pub enum Call<'a> {
     WipedOut,
 }
 
-fn changed(res: Result<Change, Refusal>) -> Answer
-    ensures { result ≡ answer_by Answer.Changed res }
+fn changed(outcome: Result<Change, Refusal>) -> Answer
+    ensures { result ≡ answer_by Answer.Changed outcome }
 {
-    match res {
+    match outcome {
         Ok(change) => Answer::Changed(change),
         Err(refusal) => Answer::Refused(refusal),
     }

@@ -10,8 +10,8 @@ use refusal::Refusal;
 use rooms::{Rooms, lend};
 use samples::Sample;
 
-fn tell_change(rt: &HostRuntime, call: &str, res: Result<Change, Refusal>) -> anyhow::Result<()> {
-    match res {
+fn tell_change(rt: &HostRuntime, call: &str, outcome: Result<Change, Refusal>) -> anyhow::Result<()> {
+    match outcome {
         Ok(change) => {
             let values = change.values;
             match change.wiped {
@@ -30,8 +30,8 @@ fn tell_refusal(rt: &HostRuntime, call: &str, refusal: Refusal) -> anyhow::Resul
     Ok(())
 }
 
-fn tell_opened(rt: &HostRuntime, call: &str, res: Result<(), Refusal>) -> anyhow::Result<()> {
-    match res {
+fn tell_opened(rt: &HostRuntime, call: &str, outcome: Result<(), Refusal>) -> anyhow::Result<()> {
+    match outcome {
         Ok(()) => println!(rt; "  {call}: opened")?,
         Err(refusal) => tell_refusal(rt, call, refusal)?,
     }

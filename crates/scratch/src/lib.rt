@@ -15,29 +15,29 @@ mod fill;
 mod settle;
 
 // The work of a call that is not refused.
-fn write<C: Catalog>(catalog: &C, sizes: &[usize], indices: &[usize], res: &mut [u64])
-    requires { None ≡ refusal (C.Catalog.meaning catalog.now) sizes.now indices.now (length res.old) }
-    ensures { Written (C.Catalog.meaning catalog.now) sizes.now indices.now res.old res.new }
+fn write<C: Catalog>(catalog: &C, sizes: &[usize], indices: &[usize], out: &mut [u64])
+    requires { None ≡ refusal (C.Catalog.meaning catalog.now) sizes.now indices.now (length out.old) }
+    ensures { Written (C.Catalog.meaning catalog.now) sizes.now indices.now out.old out.new }
 {
     let mut arcs = fill::no_arcs();
     fill::fill(catalog, sizes, indices, &mut arcs);
-    let domains = &mut res[0..sizes.len()];
+    let domains = &mut out[0..sizes.len()];
     fill::whole(sizes, domains);
     settle::settle(&arcs, domains);
 }
 
 // Writes the largest arc-consistent domains under the constraints that `indices` names, for variables of these sizes, into the first entries of
-// `result`, one for each variable: bit y for the value y.
+// `out`, one for each variable: bit y for the value y.
 pub fn largest_domains<C: Catalog>(
     catalog: &C,
     sizes: &[usize],
     indices: &[usize],
-    res: &mut [u64],
+    out: &mut [u64],
 ) -> Result<(), Refusal>
-    ensures refused { result_err result ≡ refusal (C.Catalog.meaning catalog.now) sizes.now indices.now (length res.old) }
-    ensures cases { MatchResult result (λ _. Written (C.Catalog.meaning catalog.now) sizes.now indices.now res.old res.new) (λ _. res.new ≡ res.old) }
+    ensures refused { result_err result ≡ refusal (C.Catalog.meaning catalog.now) sizes.now indices.now (length out.old) }
+    ensures cases { MatchResult result (λ _. Written (C.Catalog.meaning catalog.now) sizes.now indices.now out.old out.new) (λ _. out.new ≡ out.old) }
 {
-    accept::check(catalog, sizes, indices, res.len())?;
-    write(catalog, sizes, indices, res);
+    accept::check(catalog, sizes, indices, out.len())?;
+    write(catalog, sizes, indices, out);
     Ok(())
 }

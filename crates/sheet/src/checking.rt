@@ -32,10 +32,10 @@ fn summary_of(progress: &Progress) -> Summary
 }
 
 // a cause with the byte at which it stands
-fn placed<T>(res: Result<T, Cause>, byte: u32) -> Result<T, FormatFault>
-    ensures { result ≡ placed_result res byte }
+fn placed<T>(outcome: Result<T, Cause>, byte: u32) -> Result<T, FormatFault>
+    ensures { result ≡ placed_result outcome byte }
 {
-    match res {
+    match outcome {
         Ok(value) => Ok(value),
         Err(cause) => Err(FormatFault { cause, byte }),
     }

@@ -141,10 +141,10 @@ impl From<Counted<FormatFault>> for SheetFault {
 }
 
 // Adds to a fault how many records came before it.
-pub fn after_records<T, F>(res: Result<T, F>, records: u32) -> Result<T, Counted<F>>
-    ensures { result ≡ counted_result res records }
+pub fn after_records<T, F>(outcome: Result<T, F>, records: u32) -> Result<T, Counted<F>>
+    ensures { result ≡ counted_result outcome records }
 {
-    match res {
+    match outcome {
         Ok(value) => Ok(value),
         Err(fault) => Err(Counted { fault, records }),
     }

@@ -8,20 +8,20 @@ use Rattle.scratch.proofs.write.Goals as goal
 
 pub fill-requires : goal.fill-requires
 fill-requires g c =
-    let a = accepted (g.C.Catalog.meaning c.args.catalog.now) c.args.sizes.now c.args.indices.now (length c.args.res.now) c.requires in
+    let a = accepted (g.C.Catalog.meaning c.args.catalog.now) c.args.sizes.now c.args.indices.now (length c.args.out.now) c.requires in
     record { accepted = a.each; bounded = a.bounded; len = c.no_arcs-arcs.ensures.len; off = c.no_arcs-arcs.ensures.off }
 
 pub whole-requires : goal.whole-requires
 whole-requires g c =
-    let a = accepted (g.C.Catalog.meaning c.args.catalog.now) c.args.sizes.now c.args.indices.now (length c.args.res.now) c.requires in
-    record { len = length-take-le _ c.args.res.now (omega (arith, a.wide)) ∙ sub-zero (length c.args.sizes.now); bounded = a.bounded }
+    let a = accepted (g.C.Catalog.meaning c.args.catalog.now) c.args.sizes.now c.args.indices.now (length c.args.out.now) c.requires in
+    record { len = length-take-le _ c.args.out.now (omega (arith, a.wide)) ∙ sub-zero (length c.args.sizes.now); bounded = a.bounded }
 
 pub settle-requires : goal.settle-requires
 settle-requires g c =
     let m = g.C.Catalog.meaning c.args.catalog.now in
-    let a = accepted m c.args.sizes.now c.args.indices.now (length c.args.res.now) c.requires in
+    let a = accepted m c.args.sizes.now c.args.indices.now (length c.args.out.now) c.requires in
     let len : length c.whole.new.domains ≡ length c.args.sizes.now =
-    c.whole.auto.domains ∙ length-take-le _ c.args.res.now (omega (arith, a.wide)) ∙ sub-zero (length c.args.sizes.now)
+    c.whole.auto.domains ∙ length-take-le _ c.args.out.now (omega (arith, a.wide)) ∙ sub-zero (length c.args.sizes.now)
     in
     record {
       placed =
@@ -34,10 +34,10 @@ settle-requires g c =
 pub returns : goal.returns
 returns g c =
     let m = g.C.Catalog.meaning c.args.catalog.now in
-    let a = accepted m c.args.sizes.now c.args.indices.now (length c.args.res.now) c.requires in
+    let a = accepted m c.args.sizes.now c.args.indices.now (length c.args.out.now) c.requires in
     let len : length c.settle.new.domains ≡ length c.args.sizes.now =
-    c.settle.auto.domains ∙ c.whole.auto.domains ∙ length-take-le _ c.args.res.now (omega (arith, a.wide)) ∙ sub-zero (length c.args.sizes.now)
+    c.settle.auto.domains ∙ c.whole.auto.domains ∙ length-take-le _ c.args.out.now (omega (arith, a.wide)) ∙ sub-zero (length c.args.sizes.now)
     in
     written m (g.C.Catalog.lawful c.args.catalog.now) c.args.sizes.now c.args.indices.now c.fill.new.arcs a.each c.fill.ensures
-    _ c.args.res.now c.whole.new.domains c.settle.new.domains (sub-zero (length c.args.sizes.now)) len c.whole.ensures
+    _ c.args.out.now c.whole.new.domains c.settle.new.domains (sub-zero (length c.args.sizes.now)) len c.whole.ensures
     c.settle.ensures
