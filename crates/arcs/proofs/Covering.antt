@@ -1,5 +1,5 @@
 -- The same largest family under other arcs that ask the same, and inside a bound with the same values.
-use Rattle.std.proofs.Common.{◌≡◌, ℕ, true, sym, refl, ◌∙◌, subst}
+use Rattle.std.proofs.Common.{◌≡◌, ℕ, true, sym, ◌∙◌, subst}
 use Rattle.arcs.specs.Arcs.{Arcs}
 use Rattle.arcs.specs.Family.{Family, Inside, Support, Consistent, Largest}
 

@@ -1,6 +1,6 @@
 -- A largest family exists: while some value is without support, put it out; there are only finitely many.
-use Rattle.std.proofs.Common.{◌≡◌, ℕ, zero, suc, ◌+◌, ◌<◌, ◌≤◌, Bool, true, false, cond, not, ◌&&◌, eqb, ◌⊎◌, sym, refl, ap, ◌∙◌, subst, inl, inr, ⊎_elim, arith}
-use Rattle.std.proofs.lemmas.Bool.{not-false, cases_Bool, cases_eq, and_from, and_parts, and_cases, both_ways, eq-eqb, eqb-true}
+use Rattle.std.proofs.Common.{◌≡◌, ℕ, zero, suc, ◌+◌, ◌<◌, ◌≤◌, Bool, true, false, cond, not, ◌&&◌, eqb, ◌⊎◌, sym, refl, subst, inl, inr, ⊎_elim, arith}
+use Rattle.std.proofs.lemmas.Bool.{not-false, cases_Bool, cases_eq, and_parts, and_cases, both_ways, eq-eqb, eqb-true}
 use Rattle.arcs.specs.Arcs.{Arcs}
 use Rattle.arcs.specs.Family.{Family, Inside, Support, Consistent, Largest}
 use Rattle.arcs.specs.Around.{Around, Bare, Lost}

@@ -1,9 +1,9 @@
 -- Putting out values that have no support keeps every consistent family inside.
-use Rattle.std.proofs.Common.{◌≡◌, ℕ, Bool, true, false, sym, ◌∙◌, ⊎_elim}
+use Rattle.std.proofs.Common.{◌≡◌, ℕ, true, false, ⊎_elim}
 use Rattle.std.proofs.lemmas.Bool.{cases_Bool}
 use Rattle.arcs.specs.Arcs.{Arcs}
 use Rattle.arcs.specs.Family.{Family, Inside, Support, Consistent, Largest}
-use Rattle.arcs.specs.Around.{Around, Bare, Lost}
+use Rattle.arcs.specs.Around.{Around, Lost}
 
 -- the bound itself is around all of them
 pub around_bound : (a : Arcs) (b : Family) → Around a b b

@@ -1,9 +1,9 @@
 -- At most one family is largest; the union of two consistent ones is consistent; at most one variable is the wiped-out one.
-use Rattle.std.proofs.Common.{◌≡◌, ℕ, ◌<◌, Bool, true, false, ◌||◌, Some, None, Option, sym, refl, ap, ◌∙◌, ⊎_elim, arith}
-use Rattle.std.proofs.lemmas.Bool.{cases_Bool, cases_order, both_ways, or_cases, or_left, or_right}
+use Rattle.std.proofs.Common.{◌≡◌, ℕ, Bool, true, false, Some, None, sym, refl, ap, ⊎_elim}
+use Rattle.std.proofs.lemmas.Bool.{cases_order, both_ways, or_cases, or_left, or_right}
 use Rattle.arcs.specs.Arcs.{Arcs}
-use Rattle.arcs.specs.Family.{Family, Inside, Support, Consistent, Largest}
-use Rattle.arcs.specs.WipedOut.{WipedOut, Lowest, Empty, Shown}
+use Rattle.arcs.specs.Family.{Family, Inside, Support}
+use Rattle.arcs.specs.WipedOut.{Empty, Shown}
 use Rattle.arcs.specs.Theorems.{UnionConsistent, OneLargest, OneWipedOut, union}
 
 -- two tests that imply each other are equal

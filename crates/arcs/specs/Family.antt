@@ -1,5 +1,5 @@
 -- Families of domains, and the largest consistent one inside a bound.
-use Rattle.std.specs.Prelude.{◌≡◌, ℕ, ◌<◌, Bool, true, List, nat_lt, slice_index}
+use Rattle.std.specs.Prelude.{◌≡◌, ℕ, Bool, true, List, nat_lt, slice_index}
 use Rattle.arcs.specs.Arcs.{Arcs}
 
 -- A family gives each variable a set of values: `f i x` says whether the value `x` is in the set of the variable `i`.

@@ -1,5 +1,5 @@
 -- The bits of `&`, `|`, `^`, of a power of two and of a mask; equality by bits.
-use Rattle.std.proofs.Common.{◌≡◌, ℕ, zero, suc, ◌+◌, ◌-◌, ◌*◌, ◌/◌, ◌%◌, ◌^◌, ◌<◌, ◌≤◌, min, max, Bool, true, false, ◌&&◌, ◌||◌, eqb, ltb, ◌⊎◌, sym, refl, ap, ◌∙◌, subst, ap₂, inl, inr, ⊎_elim, le_trans, mod-lt, zero-lt-suc, pow-suc, div-one, arith, pow_pos, pow_mono}
+use Rattle.std.proofs.Common.{◌≡◌, ℕ, zero, suc, ◌+◌, ◌/◌, ◌%◌, ◌^◌, ◌<◌, ◌≤◌, min, max, true, false, ◌&&◌, ◌||◌, eqb, ltb, ◌⊎◌, sym, refl, ap, ◌∙◌, ⊎_elim, le_trans, mod-lt, zero-lt-suc, pow-suc, div-one, arith, pow_pos, pow_mono}
 use native.Mathlib.Nat.{div-div-eq-div-mul, pow-succ', div-eq_of_lt}
 use lib.Bits.{bit_and, bit_or, bit_xor, and_shr, or_shr, xor_shr, and_step, or_step, xor_add_and}
 use Rattle.std.proofs.lemmas.Bool.{both_ways, and_parts, and_from, eq-eqb, eqb-true, ne_eqb, lt-ltb, le-ltb, cases_eq, cases_lt}

@@ -1,5 +1,5 @@
 -- The bits of what code computes: `(d >> x) & 1`, `1 << x`, `d ^ (1 << x)`, `d | (1 << x)`, `(1 << n) - 1`.
-use Rattle.std.proofs.Common.{◌≡◌, ℕ, ◌+◌, ◌-◌, ◌*◌, ◌/◌, ◌%◌, ◌^◌, ◌<◌, ◌≤◌, Bool, true, false, not, ◌&&◌, ◌||◌, eqb, ltb, sym, refl, ap, ◌∙◌, arith, pow_pos}
+use Rattle.std.proofs.Common.{◌≡◌, ℕ, ◌-◌, ◌*◌, ◌/◌, ◌%◌, ◌^◌, ◌<◌, ◌≤◌, true, not, ◌&&◌, ◌||◌, eqb, ltb, ap, ◌∙◌, arith, pow_pos}
 use lib.Bits.{bit_and, bit_or, bit_xor, and_mask}
 use Rattle.std.proofs.lemmas.Nat.{one_shl}
 use Rattle.std.proofs.lemmas.Bool.{eqb-true}

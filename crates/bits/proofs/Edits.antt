@@ -1,12 +1,11 @@
 -- One value put out of a set or put into it, and how many values a set has.
-use Rattle.std.proofs.Common.{◌≡◌, ℕ, zero, suc, ◌+◌, ◌-◌, ◌*◌, ◌/◌, ◌%◌, ◌^◌, ◌<◌, ◌≤◌, min, max, Bool, true, false, not, ◌&&◌, ◌||◌, eqb, ltb, ◌⊎◌, sym, refl, ap, ◌∙◌, subst, ap₂, inl, inr, ⊎_elim, pow-suc, arith}
-use lib.Bits.{bit_and, bit_or, bit_xor, xor_lt, or_lt}
+use Rattle.std.proofs.Common.{◌≡◌, ℕ, zero, suc, ◌+◌, ◌*◌, ◌/◌, ◌%◌, ◌^◌, ◌<◌, ◌≤◌, Bool, true, false, not, ◌&&◌, ◌||◌, eqb, sym, refl, ap, ◌∙◌, ⊎_elim, pow-suc, arith}
+use lib.Bits.{bit_or, bit_xor, xor_lt, or_lt}
 use lib.Count.{ones, ones_step}
 use lib.Pow.{pow-lt}
 use Rattle.std.proofs.lemmas.Bool.{cases_eq, eq-eqb, eqb-true, ne_eqb}
-use Rattle.std.proofs.lemmas.Bool.Decides.{nat_tests}
 use Rattle.bits.specs.Bits.{bit_at, has_bit}
-use Rattle.bits.proofs.Bitwise.{bit_low, bit_zero, bit_suc, bit-and, bit-or, bit-xor, bit_power_same, bit_power_other, bit_of_zero, same_bits, has_and, has_or, has_power}
+use Rattle.bits.proofs.Bitwise.{bit_low, bit_zero, bit_suc, bit-or, bit-xor, bit_power_same, bit_power_other, has_or, has_power}
 
 -- ---- one value less: `d ^ (1 << x)` where x is in d
 

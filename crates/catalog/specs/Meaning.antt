@@ -1,5 +1,5 @@
 -- What a catalog of constraints means, and what its three questions are to answer.
-use Rattle.std.specs.Prelude.{◌≡◌, ℕ, ◌<◌, ◌≤◌, Bool, cond, ◌&&◌, Some, None, Option, ◌≢◌, nat_lt}
+use Rattle.std.specs.Prelude.{ℕ, ◌<◌, ◌≤◌, Bool, cond, ◌&&◌, Some, None, Option, ◌≢◌, nat_lt}
 
 -- Constraints by their index, from 0 to below a count: the two ends of each, and for each pair of values whether it is allowed. Only what
 -- is said of indices below the count and of values below 64 counts.

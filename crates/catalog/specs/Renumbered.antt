@@ -1,6 +1,6 @@
 -- A catalog with its variables renumbered: each end e becomes entry e of a numbering.
-use Rattle.std.specs.Prelude.{◌≡◌, ℕ, ◌<◌, ◌⊎◌, List, ◌≢◌}
-use Rattle.std.proofs.Common.{sym, inl, inr, ⊎_elim}
+use Rattle.std.specs.Prelude.{ℕ, ◌<◌, List, ◌≢◌}
+use Rattle.std.proofs.Common.{sym, ⊎_elim}
 use Rattle.std.proofs.lemmas.Bool.{cases_order}
 use Rattle.catalog.specs.Meaning.{Meaning, Lawful}
 use Rattle.catalog.specs.Numbered.{IsNumbering, entry}

@@ -1,11 +1,11 @@
 -- A constraint goes in or out: what stays.
-use Rattle.std.proofs.Common.{◌≡◌, ℕ, ◌+◌, ◌*◌, ◌^◌, ◌<◌, ◌≤◌, Bool, true, false, cond, ◌&&◌, ◌||◌, eqb, ltb, ◌⊎◌, List, length, get_or, set, sym, refl, ap, ◌∙◌, subst, inl, inr, ⊎_elim, arith}
+use Rattle.std.proofs.Common.{◌≡◌, ℕ, ◌+◌, ◌*◌, ◌^◌, ◌<◌, ◌≤◌, Bool, true, false, cond, ◌&&◌, ◌||◌, eqb, ltb, List, length, get_or, sym, refl, ap, ◌∙◌, subst, ⊎_elim, arith}
 use Rattle.std.proofs.lemmas.List.{get_or-set_same, get_or-set_other, length-set}
-use Rattle.std.proofs.lemmas.Bool.{cases_eq, cases_Bool, both_ways, and_parts, and_from, ltb-true, eqb-false, eq-eqb, true≢false}
-use Rattle.arcs.specs.Family.{Family, Support, Consistent, Inside, Largest}
+use Rattle.std.proofs.lemmas.Bool.{cases_eq, both_ways, and_parts, and_from, eqb-false}
+use Rattle.arcs.specs.Family.{Support, Consistent, Inside}
 use Rattle.bits.specs.Bits.{has_bit}
-use Rattle.justify.specs.Standing.{Standing, Out, Justified, Timed, Rests}
-use Rattle.justify.specs.Changes.{Stays, MoreReasons, ExceptReasons, Same, KeptOut, Released}
+use Rattle.justify.specs.Standing.{Out, Timed, Rests}
+use Rattle.justify.specs.Changes.{Stays, MoreReasons, ExceptReasons, Same, Released}
 use Rattle.justify.specs.Theorems.{ReleaseKept}
 use Rattle.justify.proofs.Keeps.{more_keeps, release_keeps, same_trans}
 use Rattle.domains.specs.declared.Constraints.{Constraints}
@@ -14,7 +14,7 @@ use Rattle.domains.specs.Model.{within, is_present, left_of, right_of, pair_at, 
 use Rattle.domains.specs.Sound.{Arrays, Shape, Sized, Sound, Went, Supported, Settled}
 use Rattle.domains.specs.Stands.{Stands, with_present}
 use Rattle.domains.proofs.Entries.{total_few}
-use Rattle.domains.proofs.Facing.{on_low, on_present, tied_low}
+use Rattle.domains.proofs.Facing.{on_present, tied_low}
 use Rattle.domains.proofs.Props.{stands_largest}
 
 -- ---- the arcs

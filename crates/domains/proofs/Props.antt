@@ -1,5 +1,5 @@
 -- That constraints and domains stand rightly is a fact, not data: it can be kept in a ghost field and taken out again.
-use Rattle.std.proofs.Common.{◌≡◌, ℕ, ◌+◌, ◌*◌, ◌<◌, ◌≤◌, Bool, true, false, ◌⊎◌, get_or, sym, refl, ap, ◌∙◌, subst, subst₂, inl, inr, ⊎_elim, arith}
+use Rattle.std.proofs.Common.{◌≡◌, ℕ, ◌+◌, ◌<◌, ◌≤◌, true, get_or, sym, subst₂, ⊎_elim, arith}
 use mathlib.Core.Bool.{Bool-set}
 use mathlib.Core.HLevel.{Π_prop, ×_prop, ⊥_prop}
 use mathlib.Core.Logic.{∥∥₁_elim}
@@ -7,9 +7,9 @@ use native.Mathlib.Nat.{ℕ_set}
 use native.Mathlib.Bridge.{le_prop}
 use lib.Bits.{bit_and}
 use Rattle.std.proofs.lemmas.Bool.{cases_eq}
-use Rattle.arcs.specs.Family.{Family, Support, Consistent, Largest}
+use Rattle.arcs.specs.Family.{Family, Support, Largest}
 use Rattle.bits.proofs.Coded.{has_low}
-use Rattle.justify.specs.Standing.{Standing, Out, Accounts, Justified, Timed}
+use Rattle.justify.specs.Standing.{Standing, Accounts, Timed}
 use Rattle.justify.proofs.Reach.{justified_largest}
 use Rattle.domains.specs.declared.Constraints.{Constraints}
 use Rattle.domains.specs.declared.Domains.{Domains}

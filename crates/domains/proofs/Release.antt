@@ -1,16 +1,14 @@
 -- Putting back what rests on a constraint, value by value.
-use Rattle.std.proofs.Common.{◌≡◌, ℕ, zero, suc, ◌+◌, ◌*◌, ◌^◌, ◌<◌, ◌≤◌, Bool, true, false, eqb, ◌⊎◌, List, [], ◌∷◌, ◌++◌, length, get_or, sym, refl, ap, ◌∙◌, subst, inl, inr, ⊎_elim, arith}
-use lib.Count.{ones}
-use Rattle.std.proofs.lemmas.Bool.{cases_eq, cases_Bool, both_ways, eq-eqb, eqb-true}
-use Rattle.bits.specs.Bits.{has_bit}
-use Rattle.justify.specs.Standing.{Standing, Out, Accounts, Justified, Rests, names, through}
-use Rattle.justify.specs.Changes.{Same, PutBack, Released}
+use Rattle.std.proofs.Common.{◌≡◌, ℕ, ◌<◌, true, false, ◌⊎◌, List, [], ◌∷◌, ◌++◌, sym, refl, ap, ◌∙◌, subst, inl, inr, ⊎_elim}
+use Rattle.std.proofs.lemmas.Bool.{cases_eq, cases_Bool, both_ways, eqb-true}
+use Rattle.justify.specs.Standing.{Out, Rests, names, through}
+use Rattle.justify.specs.Changes.{PutBack, Released}
 use Rattle.domains.specs.declared.Constraints.{Constraints}
 use Rattle.domains.specs.declared.Domains.{Domains}
 use Rattle.domains.specs.declared.Justifications.{Justifications}
 use Rattle.domains.specs.declared.Returning.{Returning}
-use Rattle.domains.specs.Model.{within, arcs_of, shown, standing, entry, total, reason_is}
-use Rattle.domains.specs.Sound.{Sized, Sound}
+use Rattle.domains.specs.Model.{within, arcs_of, shown, standing, entry, reason_is}
+use Rattle.domains.specs.Sound.{Sound}
 use Rattle.domains.specs.Releasing.{Stands, Low, Back, Followed, Releasing}
 
 -- ---- the list

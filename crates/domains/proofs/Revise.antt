@@ -1,20 +1,20 @@
 -- One turn on the way through the values of an arc's near variable.
-use Rattle.std.proofs.Common.{◌≡◌, ℕ, ◌+◌, ◌*◌, ◌%◌, ◌^◌, ◌<◌, ◌≤◌, Bool, true, false, cond, not, ◌&&◌, ◌||◌, ◌⊎◌, length, get_or, set, sym, refl, ap, ◌∙◌, inl, inr, ⊎_elim, arith}
+use Rattle.std.proofs.Common.{◌≡◌, ℕ, ◌+◌, ◌<◌, true, get_or, sym, refl, ap, ◌∙◌, ⊎_elim, arith}
 use lib.Bits.{bit_and}
-use Rattle.std.proofs.lemmas.Bool.{cases_eq, cases_lt, cases_Bool, both_ways, ltb-true}
-use Rattle.arcs.specs.Family.{Family, Inside, Support}
-use Rattle.bits.specs.Bits.{bit_at, has_bit}
+use Rattle.std.proofs.lemmas.Bool.{cases_eq, cases_lt, both_ways}
+use Rattle.arcs.specs.Family.{Support}
+use Rattle.bits.specs.Bits.{has_bit}
 use Rattle.bits.proofs.Bitwise.{share, share_positive}
 use Rattle.bits.proofs.Coded.{has_low}
-use Rattle.justify.specs.Standing.{Standing, Out, Justified, Timed}
-use Rattle.justify.specs.Changes.{Same, PutOut, KeptOut}
+use Rattle.justify.specs.Standing.{Timed}
+use Rattle.justify.specs.Changes.{PutOut}
 use Rattle.justify.specs.Theorems.{OutKept}
-use Rattle.justify.proofs.Keeps.{same_refl, same_trans, out_same, put_out_keeps}
+use Rattle.justify.proofs.Keeps.{same_refl, same_trans, put_out_keeps}
 use Rattle.domains.specs.declared.Arc.{Arc}
 use Rattle.domains.specs.declared.Constraints.{Constraints}
 use Rattle.domains.specs.declared.Domains.{Domains}
 use Rattle.domains.specs.Model.{within, arcs_of, shown, standing, total}
-use Rattle.domains.specs.Sound.{Sized, Sound, Went, Facing, RevisedBelow, Revising}
+use Rattle.domains.specs.Sound.{Sized, Sound, Went, Facing, Revising}
 use Rattle.domains.proofs.Values.{out_total}
 
 pub total_positive : (d : Domains) (i x : ℕ) → i < 32 → x < 64 → Sized d → shown d i x ≡ true → 0 < total d.sets

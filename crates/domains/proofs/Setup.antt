@@ -1,17 +1,17 @@
 -- To begin with nothing is in and everything is shown; and a constraint that is not in may have any ends and rows.
-use Rattle.std.proofs.Common.{◌≡◌, ℕ, ◌+◌, ◌*◌, ◌^◌, ◌<◌, ◌≤◌, min, Bool, true, false, cond, ◌&&◌, ◌||◌, eqb, ltb, ◌⊎◌, List, length, get_or, set, replicate, sym, refl, ap, ◌∙◌, subst, inl, inr, ⊎_elim, arith}
+use Rattle.std.proofs.Common.{◌≡◌, ℕ, ◌+◌, ◌*◌, ◌^◌, ◌<◌, ◌≤◌, min, true, false, cond, ◌&&◌, ◌||◌, eqb, ltb, ◌⊎◌, List, length, get_or, set, replicate, sym, refl, ap, ◌∙◌, subst, inl, inr, ⊎_elim, arith}
 use Rattle.std.proofs.lemmas.List.{get_or_past, get_or-replicate, length-replicate, get_or-set_same, get_or-set_other, length-set}
-use Rattle.std.proofs.lemmas.Bool.{cases_lt, cases_eq, cases_Bool, both_ways, lt-ltb, le-ltb, ltb-true, ltb-false, and_parts, and_from}
+use Rattle.std.proofs.lemmas.Bool.{cases_lt, cases_eq, cases_Bool, both_ways, lt-ltb, le-ltb, and_from}
 use Rattle.arcs.specs.Family.{Support, Inside, within_sizes}
 use Rattle.bits.specs.Bits.{has_bit, domains_of}
 use Rattle.bits.proofs.Bitwise.{bit_of_zero}
-use Rattle.justify.specs.Standing.{Standing, Out, Accounts, Justified, Timed}
-use Rattle.justify.specs.Changes.{Stays, MoreReasons}
+use Rattle.justify.specs.Standing.{Out, Justified, Timed}
+use Rattle.justify.specs.Changes.{MoreReasons}
 use Rattle.justify.proofs.Keeps.{more_keeps}
 use Rattle.domains.specs.declared.Constraints.{Constraints}
 use Rattle.domains.specs.declared.Domains.{Domains}
-use Rattle.domains.specs.Model.{within, is_present, left_of, right_of, pair_at, arcs_of, shown, standing, total}
-use Rattle.domains.specs.Sound.{Arrays, Shape, Sized, Sound}
+use Rattle.domains.specs.Model.{within, is_present, left_of, right_of, pair_at, arcs_of, shown, standing}
+use Rattle.domains.specs.Sound.{Shape, Sized}
 use Rattle.domains.specs.Stands.{Stands, Loaded}
 use Rattle.domains.specs.Make.{no_constraints, no_domains}
 use Rattle.domains.proofs.Entries.{zero_at}

@@ -1,5 +1,5 @@
 -- One value goes out or comes back: what is written into the plain data is what the words say.
-use Rattle.std.proofs.Common.{◌≡◌, ℕ, ◌+◌, ◌*◌, ◌%◌, ◌^◌, ◌<◌, ◌≤◌, Bool, true, false, cond, not, ◌&&◌, ◌||◌, eqb, ltb, ◌≢◌, List, length, get_or, set, sym, refl, ap, ◌∙◌, ⊎_elim, arith}
+use Rattle.std.proofs.Common.{◌≡◌, ℕ, ◌+◌, ◌*◌, ◌%◌, ◌^◌, ◌<◌, Bool, true, false, not, ◌&&◌, ◌||◌, eqb, List, length, get_or, set, sym, refl, ap, ◌∙◌, ⊎_elim, arith}
 use lib.Bits.{bit_xor, bit_or, xor_lt, or_lt}
 use lib.Count.{ones}
 use lib.Pow.{pow-lt}
@@ -9,10 +9,9 @@ use Rattle.std.proofs.lemmas.Bool.{cases_eq, eq-eqb, ne_eqb, eqb-true, eqb-false
 use Rattle.bits.specs.Bits.{bit_at, has_bit, domains_of}
 use Rattle.bits.proofs.Bitwise.{bit_low}
 use Rattle.bits.proofs.Edits.{has_cleared, has_added, ones_cleared, ones_added}
-use Rattle.justify.specs.Changes.{Same, PutOut, PutBack}
+use Rattle.justify.specs.Changes.{PutOut, PutBack}
 use Rattle.domains.specs.declared.Domains.{Domains}
-use Rattle.domains.specs.declared.Justifications.{Justifications}
-use Rattle.domains.specs.Model.{shown, standing, total, entry}
+use Rattle.domains.specs.Model.{shown, standing, total}
 use Rattle.domains.specs.Sound.{Sized}
 use Rattle.domains.proofs.Entries.{entry_same, entry_other, total-set}
 

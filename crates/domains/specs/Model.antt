@@ -1,5 +1,5 @@
 -- What the plain data means: arcs, a bound, and how the values stand.
-use Rattle.std.specs.Prelude.{ℕ, ◌+◌, ◌*◌, Bool, true, false, cond, ◌&&◌, ◌||◌, List, [], ◌∷◌, ◌==◌, count_ones, nat_lt, slice_index, slice_index_or}
+use Rattle.std.specs.Prelude.{ℕ, ◌+◌, ◌*◌, Bool, false, cond, ◌&&◌, ◌||◌, List, [], ◌∷◌, ◌==◌, count_ones, nat_lt, slice_index, slice_index_or}
 use Rattle.arcs.specs.Arcs.{Arcs}
 use Rattle.arcs.specs.Family.{Family, within_sizes}
 use Rattle.bits.specs.Bits.{has_bit, domains_of}

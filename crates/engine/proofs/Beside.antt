@@ -1,22 +1,21 @@
 -- What a value that came back stood beside comes back too; and all that rests on a constraint, in the end.
-use Rattle.std.proofs.Common.{◌≡◌, ℕ, ◌+◌, ◌*◌, ◌<◌, ◌≤◌, Bool, true, false, cond, not, ◌&&◌, eqb, ltb, ◌⊎◌, List, [], ◌∷◌, ◌++◌, length, get_or, sym, refl, ap, ◌∙◌, subst, inl, inr, ⊎_elim, arith}
+use Rattle.std.proofs.Common.{◌≡◌, ℕ, ◌+◌, ◌<◌, ◌≤◌, true, false, ◌&&◌, ltb, ◌⊎◌, List, [], ◌∷◌, get_or, sym, refl, ap, ◌∙◌, subst, inl, ⊎_elim, arith}
 use Rattle.std.proofs.lemmas.Bool.{ltb-true, lt-ltb, cases_lt, both_ways, eq-eqb, and_from}
 use Rattle.arcs.specs.Family.{Inside}
 use Rattle.bits.specs.Bits.{has_bit}
 use Rattle.justify.specs.Standing.{Out, Rests, names, through}
-use Rattle.justify.specs.Changes.{Released}
 use Rattle.queue.specs.declared.fifo.Queue.{Queue}
-use Rattle.queue.specs.Waiting.{waits, Kept}
+use Rattle.queue.specs.Waiting.{waits}
 use Rattle.domains.specs.declared.Arc.{Arc}
 use Rattle.domains.specs.declared.Constraints.{Constraints}
 use Rattle.domains.specs.declared.Domains.{Domains}
 use Rattle.domains.specs.declared.Justifications.{Justifications}
 use Rattle.domains.specs.declared.Returning.{Returning}
-use Rattle.domains.specs.Model.{within, is_present, left_of, right_of, arcs_of, shown, standing, entry, total, reason_is}
+use Rattle.domains.specs.Model.{within, left_of, right_of, arcs_of, shown, standing, entry, reason_is}
 use Rattle.domains.specs.Sound.{Shape, Facing, Sound}
-use Rattle.domains.specs.Releasing.{Low, Followed, Releasing}
+use Rattle.domains.specs.Releasing.{Releasing}
 use Rattle.domains.proofs.Facing.{on_low, on_present, on_at_far, ends_of}
-use Rattle.domains.proofs.Release.{releasing_drop, released}
+use Rattle.domains.proofs.Release.{releasing_drop}
 use Rattle.engine.specs.Returns.{Roomy, Grew, AllRest, FreesAmong}
 use Rattle.engine.proofs.Frees.{grew_refl, grew_trans}
 

@@ -1,8 +1,7 @@
 -- Values come back through their queue.
-use Rattle.std.proofs.Common.{◌≡◌, ℕ, ◌+◌, ◌*◌, ◌<◌, ◌≤◌, Bool, true, false, cond, not, ◌&&◌, eqb, ltb, ◌⊎◌, List, [], ◌∷◌, ◌++◌, length, get_or, drop, sym, refl, ap, ◌∙◌, subst, inl, inr, ⊎_elim, arith, below_more}
+use Rattle.std.proofs.Common.{◌≡◌, ℕ, ◌+◌, ◌*◌, ◌<◌, ◌≤◌, Bool, true, false, not, ◌&&◌, eqb, List, [], ◌∷◌, ◌++◌, length, drop, sym, refl, ap, ◌∙◌, subst, ⊎_elim, arith, below_more}
 use Rattle.std.proofs.lemmas.List.{append_assoc}
-use Rattle.std.proofs.lemmas.Bool.{cond-true, lt-ltb, ltb-true, cases_lt, cases_Bool, both_ways, and_parts, not-true, eqb-true, eq-eqb, and_from, not_from_false}
-use Rattle.arcs.specs.Family.{Inside}
+use Rattle.std.proofs.lemmas.Bool.{cases_Bool, both_ways, and_parts, not-true, eqb-true, eq-eqb, and_from, not_from_false}
 use Rattle.bits.specs.Bits.{has_bit}
 use Rattle.justify.specs.Standing.{Out, Rests}
 use Rattle.justify.specs.Changes.{PutBack}
@@ -13,11 +12,11 @@ use Rattle.domains.specs.declared.Domains.{Domains}
 use Rattle.domains.specs.declared.Justifications.{Justifications}
 use Rattle.domains.specs.declared.Returning.{Returning}
 use Rattle.domains.specs.Model.{within, arcs_of, shown, standing, entry, total, reason_is}
-use Rattle.domains.specs.Sound.{Sized, Shape}
+use Rattle.domains.specs.Sound.{Sized}
 use Rattle.domains.specs.Releasing.{Low, Releasing}
-use Rattle.domains.proofs.Entries.{total_few, entry_read}
+use Rattle.domains.proofs.Entries.{total_few}
 use Rattle.domains.proofs.Release.{low_push, back_grows, back_cases, was_out, releasing_free}
-use Rattle.engine.specs.Returns.{Roomy, Grew, AllRest, FreesAmong}
+use Rattle.engine.specs.Returns.{Roomy, Grew, FreesAmong}
 
 -- the test of a value that is out
 pub names_out : (b : Bool) (m n p : ℕ) → false ≡ b → m ≡ n → eqb n p ≡ (not b && eqb m p)

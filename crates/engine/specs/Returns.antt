@@ -1,5 +1,5 @@
 -- Values that come back through their queue.
-use Rattle.std.specs.Prelude.{◌≡◌, ℕ, ◌+◌, ◌≤◌, true, List, ◌++◌, length}
+use Rattle.std.specs.Prelude.{◌≡◌, ℕ, ◌+◌, ◌≤◌, true, List, ◌++◌}
 use Rattle.arcs.specs.Family.{Inside}
 use Rattle.justify.specs.Standing.{Out, Rests}
 use Rattle.queue.specs.declared.fifo.Queue.{Queue}

@@ -1,5 +1,5 @@
 -- What the house catalog means: four constraints, each by its formula.
-use Rattle.std.specs.Prelude.{◌≡◌, ℕ, ◌+◌, ◌*◌, ◌<◌, ◌≤◌, Bool, true, false, cond, ◌&&◌, ◌==◌, ◌≢◌, nat_le}
+use Rattle.std.specs.Prelude.{ℕ, ◌+◌, ◌*◌, ◌<◌, Bool, true, false, cond, ◌&&◌, ◌==◌, ◌≢◌, nat_le}
 use Rattle.std.proofs.Common.{arith, lit<, lit≤}
 use Rattle.catalog.specs.Meaning.{Meaning, Lawful}
 

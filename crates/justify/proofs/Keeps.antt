@@ -1,11 +1,11 @@
 -- What keeps everything justified.
-use Rattle.std.proofs.Common.{◌≡◌, ℕ, ◌+◌, ◌<◌, ◌≤◌, Bool, true, false, ◌⊎◌, sym, refl, ap, ◌∙◌, subst, inl, inr, ⊎_elim, arith}
+use Rattle.std.proofs.Common.{◌≡◌, ℕ, ◌+◌, ◌<◌, true, false, ◌⊎◌, sym, refl, ap, ◌∙◌, inl, inr, ⊎_elim, arith}
 use Rattle.std.proofs.lemmas.Bool.{cases_Bool, cases_eq, both_ways}
 use Rattle.arcs.specs.Arcs.{Arcs}
 use Rattle.arcs.specs.Family.{Family, Support}
 use Rattle.justify.specs.Standing.{Standing, Out, Accounts, Justified, Reasons, Rests, names, through, Timed}
-use Rattle.justify.specs.Changes.{Stays, MoreReasons, ExceptReasons, Same, PutOut, KeptOut, Released}
-use Rattle.justify.specs.Theorems.{MoreKeeps, OutKept, PutOutKeeps, ReleaseKept, ReleaseKeeps}
+use Rattle.justify.specs.Changes.{Stays, ExceptReasons, Same, PutOut, Released}
+use Rattle.justify.specs.Theorems.{MoreKeeps, PutOutKeeps, ReleaseKeeps}
 
 pub stays_refl : (a : Arcs) (i r : ℕ) → a.on i r ≡ true → Stays a a i r
 stays_refl a i r h = record { on = h; far = refl; fits = λ x y. refl }

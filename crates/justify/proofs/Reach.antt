@@ -1,8 +1,8 @@
 -- A value that is out with everything justified is in no consistent family; so what is consistent and justified is largest.
-use Rattle.std.proofs.Common.{◌≡◌, ℕ, zero, suc, ◌<◌, Bool, true, false, ⊎_elim, arith}
+use Rattle.std.proofs.Common.{◌≡◌, ℕ, zero, suc, ◌<◌, true, false, ⊎_elim, arith}
 use Rattle.std.proofs.lemmas.Bool.{cases_Bool}
 use Rattle.arcs.specs.Arcs.{Arcs}
-use Rattle.arcs.specs.Family.{Family, Inside, Support, Consistent, Largest}
+use Rattle.arcs.specs.Family.{Family, Inside, Support, Consistent}
 use Rattle.justify.specs.Standing.{Standing, Out, Accounts, Justified}
 use Rattle.justify.specs.Theorems.{OutOfEvery, JustifiedLargest}
 

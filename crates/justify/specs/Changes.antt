@@ -1,5 +1,5 @@
 -- How the reasons and the standing of the values change.
-use Rattle.std.specs.Prelude.{◌≡◌, ℕ, ◌<◌, Bool, true, false}
+use Rattle.std.specs.Prelude.{◌≡◌, ℕ, true, false}
 use Rattle.arcs.specs.Arcs.{Arcs}
 use Rattle.arcs.specs.Family.{Family}
 use Rattle.justify.specs.Standing.{Standing, Out, Reasons, Rests}

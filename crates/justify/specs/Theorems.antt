@@ -1,5 +1,5 @@
 -- What justifications are good for, and what keeps them.
-use Rattle.std.specs.Prelude.{◌≡◌, ℕ, ◌+◌, ◌<◌, Bool, true, false}
+use Rattle.std.specs.Prelude.{◌≡◌, ℕ, ◌+◌, true, false}
 use Rattle.arcs.specs.Arcs.{Arcs}
 use Rattle.arcs.specs.Family.{Family, Inside, Support, Consistent, Largest}
 use Rattle.justify.specs.Standing.{Standing, Out, Justified, Reasons, Rests, Timed}

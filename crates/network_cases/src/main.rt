@@ -10,7 +10,11 @@ use refusal::Refusal;
 use rooms::{Rooms, lend};
 use samples::Sample;
 
-fn tell_change(rt: &HostRuntime, call: &str, outcome: Result<Change, Refusal>) -> anyhow::Result<()> {
+fn tell_change(
+    rt: &HostRuntime,
+    call: &str,
+    outcome: Result<Change, Refusal>,
+) -> anyhow::Result<()> {
     match outcome {
         Ok(change) => {
             let values = change.values;

@@ -1,5 +1,5 @@
 -- Histories join, part, and keep everything standing rightly.
-use Rattle.std.proofs.Common.{◌≡◌, ℕ, zero, suc, List, [], ◌∷◌, ◌++◌, sym, refl, subst}
+use Rattle.std.proofs.Common.{zero, suc, List, [], ◌∷◌, ◌++◌, sym, refl, subst}
 use Rattle.catalog.specs.Meaning.{Meaning}
 use Rattle.network_law.specs.declared.Answer.{Answer}
 use Rattle.network_law.specs.Moment.{Moment, Right}

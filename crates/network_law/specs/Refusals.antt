@@ -1,5 +1,5 @@
 -- Which calls are refused, by which cause; and the book after a call that is not.
-use Rattle.std.specs.Prelude.{ℕ, Bool, true, false, cond, not, ◌&&◌, ◌||◌, List, length, Some, None, Option, ◌==◌, nat_lt, slice_index}
+use Rattle.std.specs.Prelude.{ℕ, Bool, true, false, cond, not, ◌&&◌, ◌||◌, length, Some, None, Option, ◌==◌, nat_lt, slice_index}
 use Rattle.catalog.specs.Meaning.{Meaning}
 use Rattle.refusal.specs.declared.Refusal.{Refusal}
 use Rattle.refusal.specs.declared.Refusal.TheVariants.{NoSuchConstraint, AlreadyIn, NotIn, ShortBuffer, ClockSpent, NoSuchValue}

@@ -1,5 +1,5 @@
 -- One call: its answer, and what stood before and after.
-use Rattle.std.specs.Prelude.{◌≡◌, ℕ, ◌+◌, ◌≤◌, Bool, true, false, cond, List, length, Some, None, Option, ◌==◌}
+use Rattle.std.specs.Prelude.{◌≡◌, ℕ, ◌+◌, ◌≤◌, cond, List, length, Some, None, Option, ◌==◌}
 use Rattle.arcs.specs.Family.{within_sizes}
 use Rattle.arcs.specs.WipedOut.{WipedOut}
 use Rattle.bits.specs.Bits.{has_bit}

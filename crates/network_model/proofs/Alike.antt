@@ -1,5 +1,5 @@
 -- What stands rightly under arcs stands rightly under arcs that ask the same.
-use Rattle.std.proofs.Common.{◌≡◌, ℕ, ◌<◌, true, false, sym, refl, ap, ◌∙◌, subst, arith}
+use Rattle.std.proofs.Common.{◌≡◌, ℕ, ◌<◌, true, sym, ap, ◌∙◌, subst}
 use Rattle.arcs.specs.Arcs.{Arcs}
 use Rattle.arcs.specs.Family.{Family, Largest}
 use Rattle.arcs.proofs.Covering.{Covers, covers_largest}

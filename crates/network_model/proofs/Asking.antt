@@ -1,5 +1,5 @@
 -- Refused calls and askings, by what the code tests.
-use Rattle.std.proofs.Common.{◌≡◌, ℕ, ◌<◌, ◌≤◌, Bool, true, false, cond, not, ◌&&◌, ltb, ◌⊎◌, List, length, get_or, take, Some, None, Option, sym, refl, ap, ◌∙◌, subst, ⊎_elim, arith}
+use Rattle.std.proofs.Common.{◌≡◌, ℕ, ◌<◌, ◌≤◌, Bool, true, false, cond, not, ◌&&◌, ltb, ◌⊎◌, length, get_or, take, Some, None, Option, sym, refl, ap, ◌∙◌, subst, ⊎_elim}
 use Rattle.std.proofs.lemmas.Bool.{and_from, and_left, and_right, lt-ltb, le-ltb}
 use Rattle.arcs.specs.WipedOut.{WipedOut}
 use Rattle.bits.specs.Bits.{has_bit}
@@ -14,10 +14,10 @@ use Rattle.domains.proofs.Props.{stands_out}
 use Rattle.engine.proofs.Called.{right_now}
 use Rattle.network_law.specs.declared.Answer.{Answer}
 use Rattle.network_law.specs.declared.Answer.TheVariants.{Domain, Shown, Justified, Wiped, Refused}
-use Rattle.network_law.specs.Moment.{Moment, Agrees, Right}
+use Rattle.network_law.specs.Moment.{Agrees, Right}
 use Rattle.network_law.specs.Calls.{Call, asks_domain, asks_shown, asks_justification, asks_wiped}
 use Rattle.network_law.specs.Refusals.{refusal, next, spent}
-use Rattle.network_law.specs.Step.{Answered, why_out}
+use Rattle.network_law.specs.Step.{Answered}
 use Rattle.network_model.specs.declared.State.{State}
 use Rattle.network_model.specs.Model.{Linked, moment_of}
 use Rattle.network_model.specs.Performs.{Took}

@@ -1,11 +1,11 @@
 -- What links the state to a catalog stays while constraints go in and out and are loaded.
-use Rattle.std.proofs.Common.{◌≡◌, ℕ, ◌<◌, ◌≤◌, Bool, true, false, cond, eqb, List, length, get_or, set, sym, refl, ap, ◌∙◌, subst, ⊎_elim, arith}
+use Rattle.std.proofs.Common.{◌≡◌, ℕ, ◌<◌, ◌≤◌, Bool, true, false, cond, eqb, List, length, get_or, set, sym, ap, ◌∙◌, subst, ⊎_elim, arith}
 use Rattle.std.proofs.lemmas.List.{get_or-set_same, get_or-set_other, length-set}
 use Rattle.std.proofs.lemmas.Bool.{cases_eq, eq-eqb, ne_eqb, cond-true, cond-false, ltb-true}
 use Rattle.bits.specs.Bits.{has_bit}
-use Rattle.catalog.specs.Meaning.{Meaning, Lawful, allowed}
+use Rattle.catalog.specs.Meaning.{Meaning, allowed}
 use Rattle.domains.specs.declared.Constraints.{Constraints}
-use Rattle.domains.specs.Model.{within, is_present, left_of, right_of, pair_at}
+use Rattle.domains.specs.Model.{within, is_present, pair_at}
 use Rattle.domains.specs.Stands.{Loaded, with_present}
 use Rattle.network_model.specs.Model.{Known, Links}
 

@@ -1,6 +1,6 @@
 -- Adding and retracting, by what the code tests and the engine does.
-use Rattle.std.proofs.Common.{◌≡◌, ℕ, ◌<◌, ◌≤◌, Bool, true, false, cond, not, ◌&&◌, ◌||◌, eqb, ltb, List, length, get_or, take, Some, None, Ok, Err, Option, Result, sym, refl, ap, ◌∙◌, subst, subst₂, arith, MatchResult}
-use Rattle.std.proofs.lemmas.Bool.{and_from, both_ways, cases_Bool, lt-ltb, ltb-true, not-true, not-false, ne_eqb, or_parts}
+use Rattle.std.proofs.Common.{◌≡◌, ℕ, ◌<◌, Bool, true, false, not, eqb, ltb, List, length, get_or, Some, None, Ok, Err, Result, sym, refl, ap, ◌∙◌, subst, subst₂, arith, MatchResult}
+use Rattle.std.proofs.lemmas.Bool.{and_from, both_ways, lt-ltb, ltb-true, not-false, ne_eqb, or_parts}
 use Rattle.arcs.specs.WipedOut.{WipedOut}
 use Rattle.catalog.specs.Meaning.{Meaning, Lawful}
 use Rattle.refusal.specs.declared.Refusal.{Refusal}
@@ -16,7 +16,6 @@ use Rattle.engine.specs.Calls.{Added, Retracted, can_add, can_retract}
 use Rattle.network_law.specs.declared.Change.{Change}
 use Rattle.network_law.specs.declared.Answer.TheVariants.{Changed, Refused}
 use Rattle.network_law.specs.Calls.{Rooms, adds, retracts}
-use Rattle.network_law.specs.Moment.{Moment}
 use Rattle.network_law.specs.Refusals.{refusal, when, short, spent, lent_refusal}
 use Rattle.network_law.specs.Step.{Step}
 use Rattle.network_model.specs.declared.State.{State}

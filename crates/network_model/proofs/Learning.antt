@@ -1,11 +1,11 @@
 -- A constraint that is asked of the catalog becomes known.
-use Rattle.std.proofs.Common.{◌≡◌, ℕ, ◌<◌, ◌≤◌, Bool, true, false, cond, not, ◌&&◌, eqb, ltb, List, length, get_or, set, Some, None, MatchBool, Option, sym, refl, ap, ◌∙◌, subst, ⊎_elim, arith}
+use Rattle.std.proofs.Common.{◌≡◌, ℕ, ◌<◌, Bool, true, false, not, ltb, List, get_or, set, Some, None, MatchBool, sym, refl, ap, ◌∙◌, subst, ⊎_elim, arith}
 use Rattle.std.proofs.lemmas.List.{get_or-set_same}
 use Rattle.std.proofs.lemmas.Bool.{and_from, cases_Bool, cond-true, cond-false, lt-ltb, ltb-true, ne_eqb}
 use Rattle.bits.specs.Bits.{has_bit}
 use Rattle.catalog.specs.Meaning.{Meaning, Lawful, allowed, ends_of}
 use Rattle.domains.specs.declared.Constraints.{Constraints}
-use Rattle.domains.specs.Model.{is_present, within}
+use Rattle.domains.specs.Model.{is_present}
 use Rattle.domains.specs.Stands.{Loaded}
 use Rattle.engine.specs.Calls.{can_load}
 use Rattle.network_model.specs.declared.State.{State}

@@ -1,13 +1,12 @@
 -- The engine's constraints beside the catalog's.
-use Rattle.std.proofs.Common.{◌≡◌, ℕ, ◌<◌, ◌≤◌, Bool, true, false, cond, ◌&&◌, ◌||◌, eqb, ltb, ◌⊎◌, List, length, get_or, take, sym, refl, ap, ◌∙◌, subst, inl, inr, ⊎_elim, arith}
+use Rattle.std.proofs.Common.{◌≡◌, ℕ, Bool, true, false, cond, ◌&&◌, ◌||◌, eqb, ltb, List, length, get_or, take, sym, refl, ap, ◌∙◌, ⊎_elim, arith}
 use native.Mathlib.Nat.{min-le_left}
 use Rattle.std.proofs.lemmas.List.{get_or-take, get_or_past, length-take, length-take-le}
 use Rattle.std.proofs.lemmas.Bool.{cases_Bool, cases_eq, cases_lt, and_parts, lt-ltb, eqb-true, eq-eqb, ne_eqb, or_cases, cond-true, cond-false}
-use Rattle.arcs.specs.Family.{Family, within_sizes}
+use Rattle.arcs.specs.Family.{within_sizes}
 use Rattle.catalog.specs.Meaning.{Meaning, Lawful, allowed}
 use Rattle.catalog.specs.Constraints.{arcs_of}
 use Rattle.domains.specs.declared.Constraints.{Constraints}
-use Rattle.domains.specs.declared.Domains.{Domains}
 use Rattle.domains.specs.Model.{within, is_present, left_of, right_of, pair_at, arcs_of as arcs_in}
 use Rattle.network_model.specs.Alike.{Alike}
 use Rattle.network_model.specs.Model.{Known, Links}

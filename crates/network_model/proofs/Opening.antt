@@ -1,5 +1,5 @@
 -- A network newly made, and the opening of one.
-use Rattle.std.proofs.Common.{◌≡◌, ℕ, ◌<◌, ◌≤◌, min, Bool, true, false, cond, ltb, List, [], length, get_or, take, replicate, None, sym, refl, ap, ◌∙◌, subst, ⊎_elim, arith}
+use Rattle.std.proofs.Common.{◌≡◌, ℕ, ◌<◌, ◌≤◌, min, Bool, false, ltb, List, length, get_or, take, replicate, None, sym, refl, ap, ◌∙◌, subst, ⊎_elim, arith}
 use Rattle.std.proofs.lemmas.List.{length-take-le, length-replicate, get_or-take, get_or_past, get_or_default, get_or-replicate, same_lists}
 use Rattle.std.proofs.lemmas.Bool.{both_ways, cases_lt, lt-ltb, le-ltb, cond-true, cond-false}
 use Rattle.catalog.specs.Meaning.{Meaning, Lawful}
@@ -8,8 +8,8 @@ use Rattle.refusal.proofs.Sizes.{Fitting, sizes_accepted}
 use Rattle.domains.specs.declared.Constraints.{Constraints}
 use Rattle.domains.specs.declared.Domains.{Domains}
 use Rattle.domains.specs.Make.{no_constraints, no_domains}
-use Rattle.domains.specs.Model.{within, is_present}
-use Rattle.engine.specs.Calls.{Right as RightIn, Opened as OpenedIn}
+use Rattle.domains.specs.Model.{is_present}
+use Rattle.engine.specs.Calls.{Opened as OpenedIn}
 use Rattle.network_law.specs.declared.Answer.TheVariants.{Opened}
 use Rattle.network_law.specs.Moment.{Moment, Blank}
 use Rattle.network_law.specs.Calls.{opens}

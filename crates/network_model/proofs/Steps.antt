@@ -1,18 +1,17 @@
 -- Each call is a step of the law.
-use Rattle.std.proofs.Common.{◌≡◌, ℕ, ◌+◌, ◌<◌, ◌≤◌, Bool, true, false, cond, eqb, List, [], length, get_or, take, Some, None, Option, sym, refl, ap, ◌∙◌, subst, ⊎_elim, arith}
+use Rattle.std.proofs.Common.{◌≡◌, ℕ, ◌<◌, ◌≤◌, Bool, true, false, cond, eqb, List, length, get_or, take, Some, None, Option, sym, refl, ap, ◌∙◌, subst, arith}
 use Rattle.std.proofs.lemmas.List.{length-take-le, get_or-take}
-use Rattle.arcs.specs.Family.{Family, Largest, within_sizes}
+use Rattle.arcs.specs.Family.{Largest, within_sizes}
 use Rattle.arcs.specs.WipedOut.{WipedOut, Shown}
 use Rattle.bits.specs.Bits.{has_bit, domains_of}
 use Rattle.catalog.specs.Meaning.{Meaning, Lawful}
 use Rattle.catalog.specs.Constraints.{arcs_of}
-use Rattle.justify.specs.Standing.{Standing, Out, Justified, Timed, Rests}
-use Rattle.justify.specs.Changes.{Same}
+use Rattle.justify.specs.Standing.{Out, Justified, Timed, Rests}
 use Rattle.justify.proofs.Keeps.{same_refl}
 use Rattle.refusal.specs.declared.Refusal.{Refusal}
 use Rattle.domains.specs.declared.Constraints.{Constraints}
 use Rattle.domains.specs.declared.Domains.{Domains}
-use Rattle.domains.specs.Model.{within, is_present, shown, standing, total, reason_is, arcs_of as arcs_in}
+use Rattle.domains.specs.Model.{within, is_present, shown, standing, reason_is, arcs_of as arcs_in}
 use Rattle.domains.specs.Sound.{Sized}
 use Rattle.domains.specs.Stands.{with_present}
 use Rattle.engine.specs.Calls.{Right as RightIn, Added, Retracted}
@@ -21,8 +20,7 @@ use Rattle.network_law.specs.declared.Answer.TheVariants.{Changed, Refused}
 use Rattle.network_law.specs.Moment.{Book, Moment, Agrees, Right, bound, arcs_at}
 use Rattle.network_law.specs.Calls.{Rooms, Call, adds, retracts}
 use Rattle.network_law.specs.Refusals.{refusal, next, spent}
-use Rattle.network_law.specs.Counting.{count_less}
-use Rattle.network_law.specs.Step.{Step, Turned, Accepted, Answered, Frees}
+use Rattle.network_law.specs.Step.{Step, Turned, Answered}
 use Rattle.network_model.specs.Model.{moment, Links}
 use Rattle.network_model.proofs.Alike.{alike_largest, alike_justified, alike_rests}
 use Rattle.network_model.proofs.Counts.{count_is_less}

@@ -4,7 +4,7 @@ use Rattle.catalog.specs.Meaning.{Meaning, allowed}
 use Rattle.domains.specs.declared.Constraints.{Constraints}
 use Rattle.domains.specs.declared.Domains.{Domains}
 use Rattle.domains.specs.Model.{within, is_present, left_of, right_of, pair_at, standing}
-use Rattle.network_law.specs.Moment.{Book, Moment}
+use Rattle.network_law.specs.Moment.{Moment}
 use Rattle.network_model.specs.declared.State.{State}
 
 -- the constraints, the domains and n variables as a moment of a network

@@ -1,7 +1,7 @@
 -- What a write at the tail and a step of the head make of the entries that wait.
-use Rattle.std.proofs.Common.{◌≡◌, ℕ, ◌+◌, ◌-◌, ◌<◌, ◌≤◌, min, cond, ltb, ◌⊎◌, List, [], ◌∷◌, ◌++◌, length, get_or, take, drop, set, sym, refl, ap, ◌∙◌, inl, inr, ⊎_elim, add-one, arith}
+use Rattle.std.proofs.Common.{◌≡◌, ℕ, ◌+◌, ◌-◌, ◌<◌, ◌≤◌, cond, ltb, ◌⊎◌, List, [], ◌∷◌, ◌++◌, length, get_or, take, drop, set, sym, ap, ◌∙◌, inl, inr, ⊎_elim, add-one, arith}
 use lib.Seq.{take-set-lt}
-use Rattle.std.proofs.lemmas.List.{length-take, length-drop, length-append, length-take-le, drop-set-add, take-set-le, set-append_left, set-append_right, drop-set-lt, take_more_set, drop_more, take_more, append_assoc, append-nil, take_all, drop_all, take-append-le, get_or-take, take-take}
+use Rattle.std.proofs.lemmas.List.{length-take, length-drop, length-append, length-take-le, drop-set-add, take-set-le, set-append_left, set-append_right, drop-set-lt, take_more_set, drop_more, take_more, append_assoc, append-nil, take_all, drop_all, take-append-le, get_or-take}
 use Rattle.std.proofs.lemmas.Bool.{cases_lt, cond-false, cond-true, le-ltb, lt-ltb}
 use Rattle.queue.specs.declared.fifo.Queue.{Queue}
 use Rattle.queue.specs.Waiting.{waiting, waits, turned}

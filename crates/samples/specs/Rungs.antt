@@ -1,7 +1,7 @@
 -- A catalog with as many constraints as are wanted, up to 128: a ladder, on which the value of each variable lies below that of the next.
-use Rattle.std.specs.Prelude.{◌≡◌, ℕ, ◌+◌, ◌%◌, ◌<◌, ◌≤◌, min, nat_lt}
+use Rattle.std.specs.Prelude.{ℕ, ◌+◌, ◌%◌, min, nat_lt}
 use Rattle.std.proofs.Math.Nat.{min-le_left}
-use Rattle.std.proofs.Common.{mod-lt, arith, lit<}
+use Rattle.std.proofs.Common.{arith}
 use Rattle.catalog.specs.Meaning.{Meaning, Lawful}
 
 -- the constraint p: a value of variable p % 31 lies below that of the next variable

@@ -1,6 +1,5 @@
 -- Domains written out: a list of values for each variable.
 use Rattle.std.specs.Prelude.{ℕ, Bool, false, ◌||◌, List, [], ◌∷◌, ◌==◌, slice_index_or}
-use Rattle.arcs.specs.Arcs.{Arcs}
 use Rattle.arcs.specs.Family.{Family, Largest, within_sizes}
 use Rattle.catalog.specs.Meaning.{Meaning}
 use Rattle.catalog.specs.Constraints.{arcs_of}

@@ -1,5 +1,5 @@
 -- The meanings of three small catalogs of two constraints each.
-use Rattle.std.specs.Prelude.{◌≡◌, ℕ, ◌+◌, ◌<◌, ◌≤◌, Bool, true, false, cond, not, ◌&&◌, leb, ◌==◌, nat_le, nat_lt}
+use Rattle.std.specs.Prelude.{ℕ, ◌+◌, Bool, cond, not, ◌&&◌, leb, ◌==◌, nat_le, nat_lt}
 use Rattle.std.proofs.Common.{arith, lit<, lit≤}
 use Rattle.catalog.specs.Meaning.{Meaning, Lawful}
 use Rattle.samples.specs.declared.Sample.{Sample}

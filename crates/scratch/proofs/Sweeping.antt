@@ -1,13 +1,13 @@
 -- One arc revised, one pass over all arcs, and the end of the passes.
-use Rattle.std.proofs.Common.{◌≡◌, ℕ, ◌+◌, ◌^◌, ◌<◌, ◌≤◌, Bool, true, false, not, ◌&&◌, ◌||◌, eqb, ltb, ◌≢◌, ◌⊎◌, List, length, get_or, set, sum, sym, refl, ap, ◌∙◌, subst, inl, inr, ⊎_elim, arith}
+use Rattle.std.proofs.Common.{◌≡◌, ℕ, ◌+◌, ◌^◌, ◌<◌, ◌≤◌, Bool, true, false, not, ◌&&◌, ◌||◌, eqb, ltb, ◌⊎◌, List, length, get_or, set, sum, sym, refl, ap, ◌∙◌, subst, inl, inr, ⊎_elim, arith}
 use lib.Bits.{bit_and}
 use Rattle.std.proofs.lemmas.List.{get_or_past, get_or-set_same, get_or-set_other, set-get_or}
 use Rattle.std.proofs.lemmas.List.Sums.{sum_by-set}
-use Rattle.std.proofs.lemmas.Bool.{cases_lt, or_parts, and_parts, and_from, and_cases, both_ways, cases_Bool, cases_eq, eq-eqb, eqb-true, eqb-false, lt-ltb, ltb-true, ltb-false, not-true, not-false}
+use Rattle.std.proofs.lemmas.Bool.{cases_lt, or_parts, and_parts, and_from, and_cases, both_ways, cases_eq, eq-eqb, eqb-true, eqb-false, lt-ltb, ltb-true, not-true, not-false}
 use Rattle.arcs.specs.Arcs.{Arcs}
-use Rattle.arcs.specs.Family.{Family, Inside, Support, Consistent, Largest}
+use Rattle.arcs.specs.Family.{Family, Inside, Support, Largest}
 use Rattle.arcs.specs.Around.{Around, Lost}
-use Rattle.arcs.proofs.Shrink.{around_bound, shrink, around_largest}
+use Rattle.arcs.proofs.Shrink.{shrink, around_largest}
 use Rattle.bits.specs.Bits.{has_bit, domains_of}
 use Rattle.bits.proofs.Bitwise.{has_mask, has_of_zero, inside_le, has_le, meet, share_positive}
 use Rattle.scratch.specs.declared.arc.Arc.{Arc}

@@ -1,17 +1,17 @@
 -- The arcs that are kept ask what the constraints named ask.
-use Rattle.std.proofs.Common.{◌≡◌, ℕ, ◌+◌, ◌*◌, ◌/◌, ◌<◌, ◌≤◌, Bool, true, false, cond, ◌&&◌, ◌||◌, eqb, ltb, ◌⊎◌, List, ◌++◌, length, get_or, take, drop, None, sym, refl, ap, ◌∙◌, subst, inl, inr, ⊎_elim, arith}
+use Rattle.std.proofs.Common.{◌≡◌, ℕ, ◌+◌, ◌*◌, ◌/◌, ◌<◌, Bool, true, ◌&&◌, ◌||◌, eqb, ltb, ◌⊎◌, List, ◌++◌, length, get_or, take, drop, None, sym, ◌∙◌, subst, inl, inr, ⊎_elim, arith}
 use Rattle.std.proofs.lemmas.List.{take_at}
 use Rattle.std.proofs.lemmas.Slice.{drop-append-drop}
-use Rattle.std.proofs.lemmas.Bool.{and_parts, and_from, both_ways, cases_Bool, cases_eq, cond-true, cond-false, eq-eqb, eqb-true, eqb-false, ne_eqb, lt-ltb, ltb-true, or_cases, or_left, or_right}
+use Rattle.std.proofs.lemmas.Bool.{and_parts, and_from, both_ways, cases_Bool, cases_eq, cond-true, cond-false, eq-eqb, eqb-true, ne_eqb, lt-ltb, ltb-true, or_cases, or_left, or_right}
 use Rattle.arcs.specs.Arcs.{Arcs}
 use Rattle.arcs.specs.Family.{Family, Largest, within_sizes}
 use Rattle.arcs.proofs.Unique.{one_largest}
 use Rattle.arcs.proofs.Covering.{Asked, Covers, covers_largest, same_bound}
-use Rattle.bits.specs.Bits.{has_bit, domains_of}
+use Rattle.bits.specs.Bits.{domains_of}
 use Rattle.catalog.specs.Constraints.{arcs_of}
 use Rattle.catalog.specs.Meaning.{Meaning, Lawful, allowed}
 use Rattle.scratch.specs.declared.arc.Arc.{Arc}
-use Rattle.scratch.specs.Filled.{Holds, Kept, Free, Filled}
+use Rattle.scratch.specs.Filled.{Holds, Filled}
 use Rattle.scratch.specs.Named.{named}
 use Rattle.scratch.specs.Refused.{indices_refusal}
 use Rattle.scratch.specs.Rows.{off_arc, arcs_of_rows}

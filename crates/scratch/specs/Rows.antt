@@ -1,5 +1,5 @@
 -- Arcs that are kept as rows of bits.
-use Rattle.std.specs.Prelude.{ℕ, ◌<◌, ◌≤◌, Bool, false, ◌&&◌, List, [], ◌∷◌, length, replicate, ◌==◌, slice_index, slice_index_or, refl}
+use Rattle.std.specs.Prelude.{ℕ, ◌<◌, ◌≤◌, false, ◌&&◌, List, length, replicate, ◌==◌, slice_index, slice_index_or, refl}
 use Rattle.arcs.specs.Arcs.{Arcs}
 use Rattle.bits.specs.Bits.{has_bit}
 use Rattle.scratch.specs.declared.arc.Arc.{Arc}

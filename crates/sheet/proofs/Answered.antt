@@ -1,14 +1,12 @@
 -- What came through a `?` in the check, in plain words.
-use Rattle.std.proofs.Common.{◌≡◌, ℕ, suc, ◌+◌, ◌-◌, ◌<◌, ◌≤◌, Bool, true, false, cond, eqb, List, length, drop, Ok, Err, Result, sym, refl, ap, ◌∙◌, subst, arith, Bor}
+use Rattle.std.proofs.Common.{◌≡◌, ℕ, suc, ◌+◌, ◌-◌, ◌≤◌, List, length, drop, Ok, Err, Result, sym, refl, ap, ◌∙◌, subst, arith, Bor}
 use Rattle.std.proofs.lemmas.List.{length-drop}
-use Rattle.std.proofs.lemmas.Bool.{ne_eqb, eq-eqb, cond-true, cond-false}
 use Rattle.sheet_format.specs.declared.faults.Cause.{Cause}
 use Rattle.sheet_format.specs.declared.faults.RecordFault.{RecordFault}
 use Rattle.sheet_format.specs.Faults.{counted_result}
 use Rattle.sheet_format.specs.Reading.{Shown, Reading, taken, reading}
 use Rattle.sheet_format.specs.Verdict.{Tally, Step, goes, ends, step, Verdict, after_step, after_reading, walked}
 use Rattle.sheet_law.proofs.Framing.{Took, took}
-use Rattle.sheet_law.proofs.Held.{step_moves}
 use Rattle.sheet.specs.declared.reader.Record.{Record}
 use Rattle.sheet.specs.declared.steps.Flow.{Flow}
 use Rattle.sheet.specs.Outcome.{shown_by, Answers}

@@ -1,10 +1,10 @@
 -- The loops' steps, over the definitions that recurse.
-use Rattle.std.proofs.Common.{◌≡◌, ℕ, suc, ◌+◌, ◌-◌, ◌*◌, ◌/◌, ◌^◌, ◌<◌, ◌≤◌, Bool, true, false, cond, ◌&&◌, ◌||◌, eqb, ltb, List, length, get_or, take, drop, sym, refl, ap, ◌∙◌, subst, ⊎_elim, le_trans, add-zero, add_assoc, arith, pow_pos, pow_mono}
+use Rattle.std.proofs.Common.{◌≡◌, ℕ, suc, ◌+◌, ◌-◌, ◌*◌, ◌/◌, ◌^◌, ◌<◌, ◌≤◌, true, false, ◌&&◌, ◌||◌, eqb, ltb, List, length, drop, sym, ap, ◌∙◌, ⊎_elim, le_trans, add-zero, add_assoc, arith, pow_pos, pow_mono}
 use Rattle.std.proofs.lemmas.List.{at_drop_more, at_drop_all, get_or-drop, drop-drop}
 use Rattle.std.proofs.lemmas.Bool.{lt-ltb, le-ltb, eq-eqb, ne_eqb, cases_lt}
 use Rattle.std.proofs.lemmas.Nat.{div_below, le-div}
 use Rattle.sheet_format.specs.declared.found.Variable.{Variable}
-use Rattle.sheet_format.specs.Numbers.{number2, number4, number8}
+use Rattle.sheet_format.specs.Numbers.{number8}
 use Rattle.sheet_format.specs.Value.{no_variable, house_at}
 use Rattle.sheet_format.specs.Verdict.{used, rows_good}
 

@@ -1,5 +1,5 @@
 -- What reading one record more says of the verdict.
-use Rattle.std.specs.Prelude.{◌≡◌, ℕ, ◌+◌, ◌-◌, ◌≤◌, List, length, drop, Ok, Err, Result}
+use Rattle.std.specs.Prelude.{◌≡◌, ℕ, ◌+◌, ◌≤◌, List, length, drop, Ok, Err, Result}
 use Rattle.sheet_format.specs.declared.faults.Cause.{Cause}
 use Rattle.sheet_format.specs.declared.faults.FormatFault.{FormatFault}
 use Rattle.sheet_format.specs.declared.faults.SheetFault.{SheetFault}

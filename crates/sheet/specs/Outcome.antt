@@ -1,5 +1,5 @@
 -- What the reader's answers say, as plain data.
-use Rattle.std.specs.Prelude.{◌≡◌, ℕ, Bool, cond, eqb, List, Some, None, Ok, Err, Option, Result}
+use Rattle.std.specs.Prelude.{◌≡◌, ℕ, List, Some, None, Ok, Err, Option, Result}
 use Rattle.std.specs.Borrow.{Bor}
 use Rattle.sheet_format.specs.declared.faults.RecordFault.{RecordFault}
 use Rattle.sheet_format.specs.Reading.{Shown, shows_heading, shows_variable, shows_sum, shows_table, shows_short_table, shows_add, shows_retract, shows_end, Reading, taken, broken}

@@ -1,5 +1,5 @@
 -- The progress of the check as the tally of the definition.
-use Rattle.std.specs.Prelude.{◌≡◌, ◌<◌, true, List, take, Ok, Err, Result}
+use Rattle.std.specs.Prelude.{◌≡◌, ◌<◌, true, take, Ok, Err, Result}
 use Rattle.sheet_format.specs.declared.faults.Cause.{Cause}
 use Rattle.sheet_format.specs.Verdict.{Tally, Step, goes, ends, stops, constraints_due, constraint_step}
 use Rattle.sheet.specs.declared.progress.Progress.{Progress}

@@ -1,13 +1,12 @@
 -- What is read where a constraint begins is that constraint.
-use Rattle.std.proofs.Common.{◌≡◌, ℕ, ◌+◌, ◌<◌, ◌≤◌, Bool, true, false, cond, ltb, List, ◌∷◌, ◌++◌, length, get_or, drop, Some, None, Option, sym, refl, ap, ◌∙◌, subst, arith}
+use Rattle.std.proofs.Common.{◌≡◌, ℕ, ◌<◌, Bool, true, false, cond, ltb, List, length, get_or, drop, Some, None, sym, refl, ap, ◌∙◌, subst, arith}
 use Rattle.std.specs.List.{AllByRecursion as All}
 use Rattle.std.proofs.lemmas.Bool.{le-ltb, lt-ltb, cond-false, cond-true}
 use Rattle.catalog.specs.Meaning.{ends_of}
 use Rattle.sheet_format.specs.declared.found.Variable.{Variable}
-use Rattle.sheet_format.specs.Numbers.{eight}
 use Rattle.sheet_format.specs.Value.{Constraint, sum, table, Sheet, ValidVariable, ValidConstraint}
 use Rattle.sheet_format.specs.Encoding.{Raw, framed, constraint_record, Valid}
-use Rattle.sheet_format.specs.Reading.{Shown, shows_table, shows_short_table, shown, shown_table, reading, taken_if}
+use Rattle.sheet_format.specs.Reading.{shows_short_table, shown, reading, taken_if}
 use Rattle.sheet_law.proofs.Framing.{Short, framed_read}
 use Rattle.sheet_law.proofs.Laws.{constraint_back}
 use Rattle.sheet_meaning.specs.Meant.{left_end, right_end, constraint_at, meaning_of, sheet_in}

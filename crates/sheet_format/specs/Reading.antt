@@ -1,5 +1,5 @@
 -- What taking one record off some bytes gives.
-use Rattle.std.specs.Prelude.{ℕ, ◌+◌, Bool, cond, ◌||◌, List, [], ◌∷◌, length, take, drop, Some, None, Option, ◌==◌, nat_lt, slice_index}
+use Rattle.std.specs.Prelude.{ℕ, ◌+◌, cond, ◌||◌, List, length, take, drop, Some, None, Option, ◌==◌, nat_lt, slice_index}
 use Rattle.sheet_format.specs.Numbers.{number2}
 use Rattle.sheet_format.specs.declared.faults.RecordCause.{RecordCause}
 use Rattle.sheet_format.specs.declared.faults.RecordCause.TheVariants.{Missing, BadLength, UnknownKind}

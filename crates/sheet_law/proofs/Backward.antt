@@ -1,23 +1,21 @@
 -- Records that run to the end are those of a valid sheet.
-use Rattle.std.proofs.Common.{◌≡◌, ℕ, zero, suc, ◌+◌, ◌*◌, ◌^◌, ◌<◌, ◌≤◌, Bool, true, false, not, ◌&&◌, eqb, ltb, ◌⊎◌, List, [], ◌∷◌, ◌++◌, map, length, get_or, Some, sym, refl, ap, ◌∙◌, subst, inl, inr, ⊎_elim, arith}
+use Rattle.std.proofs.Common.{◌≡◌, ℕ, ◌+◌, ◌*◌, ◌<◌, ◌≤◌, true, eqb, List, [], ◌∷◌, ◌++◌, map, length, get_or, sym, refl, ap, ◌∙◌, subst, ⊎_elim, arith}
 use Rattle.std.specs.List.{flat_map, AllByRecursion as All}
-use Rattle.std.proofs.lemmas.List.{append_assoc, append-nil, length-append, nil_from_length}
-use Rattle.std.proofs.ByRecursion.{All-push}
-use Rattle.std.proofs.lemmas.Bool.{ltb-true, ltb-false, eqb-true, and_parts, not-true, not-false, lt-ltb, both_ways}
+use Rattle.std.proofs.lemmas.List.{nil_from_length}
+use Rattle.std.proofs.lemmas.Bool.{ltb-true, eqb-true, and_parts}
 use Rattle.sheet_format.specs.declared.found.Variable.{Variable}
 use Rattle.sheet_format.specs.Numbers.{two, eight, number2}
-use Rattle.sheet_format.specs.Value.{Constraint, sum, table, Move, add, retract, size_at, ValidVariable, ValidEnds, HousesDiffer, ValidConstraint, ValidMove}
-use Rattle.sheet_format.specs.Encoding.{Raw, framed, heading_record, variable_record, constraint_record, move_record, end_record}
+use Rattle.sheet_format.specs.Value.{Constraint, table, Move, add, retract, size_at, ValidEnds, ValidConstraint, ValidMove}
+use Rattle.sheet_format.specs.Encoding.{Raw, framed, constraint_record, move_record, end_record}
 use Rattle.sheet_format.specs.Decoding.{sum_in, rows_in}
-use Rattle.sheet_format.specs.Reading.{Shown, shows_heading, shows_variable, shows_sum, shows_table, shows_short_table, shows_add, shows_retract, shows_end, shown}
-use Rattle.sheet_format.specs.Verdict.{Tally, nothing_yet, step, goes, ends, complete, constraints_due, used, house_good, ends_good, variable_of, with_heading, with_variable, with_constraint, with_move}
+use Rattle.sheet_format.specs.Reading.{Shown, shows_heading, shows_variable, shows_sum, shows_table, shows_short_table, shows_add, shows_retract, shows_end}
+use Rattle.sheet_format.specs.Verdict.{Tally, step, goes, complete, constraints_due, ends_good, with_constraint, with_move}
 use Rattle.sheet_law.proofs.Framing.{Bytes, framed-length}
-use Rattle.sheet_law.proofs.Held.{HeadingHeld, VariableHeld, ConstraintHeld, SumHeld, TableHeld, MoveHeld, GoesHeld, goes_held, EndHeld, end_held}
+use Rattle.sheet_law.proofs.Held.{GoesHeld, goes_held, EndHeld, end_held}
 use Rattle.sheet_law.proofs.Walks.{past, Ended, Runs}
 use Rattle.sheet_law.proofs.Shows.{KindIs, kind_is}
 use Rattle.sheet_law.proofs.Rows.{RowsBack, rows_back}
-use Rattle.sheet_law.proofs.Items.{same_raw, between_is, ends_valid, two_numbers, one_number, sum_again, sum_valid}
-use Rattle.sheet_law.proofs.Houses.{differ_push}
+use Rattle.sheet_law.proofs.Items.{same_raw, ends_valid, one_number, sum_again, sum_valid}
 
 abbrev pub AllBytes : List Raw → Type 0
 AllBytes rs = All (λ r. Bytes r.body) rs

@@ -1,5 +1,5 @@
 -- The records of a valid sheet run to the end.
-use Rattle.std.proofs.Common.{◌≡◌, ℕ, zero, suc, ◌+◌, ◌*◌, ◌^◌, ◌<◌, ◌≤◌, Bool, true, false, not, ◌&&◌, eqb, ltb, ◌⊎◌, List, [], ◌∷◌, ◌++◌, map, length, get_or, ℤ, Some, sym, refl, ap, ◌∙◌, subst, inl, inr, ⊎_elim, add_assoc, arith}
+use Rattle.std.proofs.Common.{◌≡◌, ℕ, ◌+◌, ◌*◌, ◌<◌, ◌≤◌, Bool, true, false, not, eqb, ltb, List, [], ◌∷◌, ◌++◌, map, length, ℤ, Some, sym, refl, ap, ◌∙◌, subst, inl, inr, arith}
 use Rattle.std.specs.List.{flat_map, AllByRecursion as All}
 use Rattle.std.proofs.lemmas.List.{append_assoc, append-nil, length-append}
 use Rattle.std.proofs.ByRecursion.{All-get_or}
@@ -11,7 +11,7 @@ use Rattle.sheet_format.specs.Numbers.{two, eight, number2}
 use Rattle.sheet_format.specs.Value.{Constraint, sum, table, Move, add, retract, Sheet, no_variable, size_at, ValidVariable, HousesDiffer, ValidSum, ValidTable, ValidConstraint, ValidMove}
 use Rattle.sheet_format.specs.Encoding.{Raw, framed, heading_record, variable_record, constraint_record, move_record, end_record, records_of, Valid}
 use Rattle.sheet_format.specs.Reading.{Shown, shows_heading, shows_variable, shows_sum, shows_table, shows_add, shows_retract, shows_end, shown}
-use Rattle.sheet_format.specs.Verdict.{Tally, nothing_yet, Step, goes, ends, unless, step, complete, constraints_due, between, used, house_good, ends_good, sum_body_good, rows_good, variable_of, with_variable, with_constraint, with_move, variable_step, sum_step, table_step}
+use Rattle.sheet_format.specs.Verdict.{Tally, nothing_yet, Step, goes, ends, unless, step, complete, constraints_due, between, used, house_good, ends_good, sum_body_good, rows_good, variable_of}
 use Rattle.sheet_law.proofs.NumberLaws.{two_back}
 use Rattle.sheet_law.proofs.Framing.{framed-length}
 use Rattle.sheet_law.proofs.Walks.{past, Runs}

@@ -1,5 +1,5 @@
 -- What a step that goes on has passed.
-use Rattle.std.proofs.Common.{◌≡◌, ℕ, ◌+◌, ◌*◌, ◌<◌, ◌≤◌, Bool, true, false, cond, ◌&&◌, eqb, ltb, List, [], ◌∷◌, ◌++◌, length, get_or, sym, refl, ap, ◌∙◌, subst, arith}
+use Rattle.std.proofs.Common.{◌≡◌, ℕ, ◌+◌, ◌*◌, ◌≤◌, Bool, true, false, ◌&&◌, eqb, ltb, List, length, get_or, sym, refl, ap, arith}
 use Rattle.sheet_format.specs.declared.faults.Cause.{Cause}
 use Rattle.sheet_format.specs.declared.faults.Cause.TheVariants.{OutOfTurn, TooManyConstraints, WrongLength, BadHeading, BadSize, BadHouse, BadEnds, BadSum, BadRow}
 use Rattle.sheet_format.specs.Numbers.{number2}

@@ -1,22 +1,18 @@
 -- Each kind of record: what passes the check is the record of a valid item, and the record of a valid item passes.
-use Rattle.std.proofs.Common.{◌≡◌, ℕ, zero, suc, ◌+◌, ◌*◌, ◌/◌, ◌^◌, ◌<◌, ◌≤◌, Bool, true, false, cond, not, ◌&&◌, ◌||◌, eqb, ltb, leb, ◌⊎◌, List, [], ◌∷◌, ◌++◌, length, get_or, drop, ℤ, pos, negsuc, ◌≤ℤ◌, sym, refl, ap, ◌∙◌, subst, inl, inr, ⊎_elim, arith, w16, w32, Fits, SFits, to_z, of_z}
-use lib.Signed.{le_z, le_z_yes}
+use Rattle.std.proofs.Common.{◌≡◌, ℕ, ◌+◌, ◌*◌, ◌^◌, ◌<◌, ◌≤◌, true, not, ◌&&◌, eqb, ltb, leb, List, [], ◌∷◌, ◌++◌, length, get_or, drop, ℤ, pos, negsuc, ◌≤ℤ◌, sym, ap, ◌∙◌, arith, w16, w32, SFits, to_z, of_z}
+use lib.Signed.{le_z}
 use mir.Facts.{sfits_to_z, Fits-of_z}
-use Rattle.std.specs.List.{flat_map, AllByRecursion as All}
 use Rattle.std.proofs.lemmas.List.{drop_more, drop_all, append-nil}
 use Rattle.std.proofs.ByRecursion.{All-get_or}
 use Rattle.std.proofs.lemmas.Int.{to_z-of_z, of_z-to_z, ints}
-use Rattle.std.proofs.lemmas.Bool.{ltb-true, leb-true, eqb-true, eqb-false, and_parts, and_from, not-true, lt-ltb, le-leb, eq-eqb, ne_eqb, not_from_false, cond-true}
-use Rattle.sheet_format.specs.declared.found.Variable.{Variable}
-use Rattle.sheet_format.specs.declared.faults.Cause.{Cause}
-use Rattle.sheet_format.specs.Numbers.{two, four, eight, number2, number4}
-use Rattle.sheet_format.specs.Value.{Constraint, sum, table, Move, add, retract, size_at, ValidVariable, ValidEnds, ValidSum, ValidTable, ValidConstraint, ValidMove}
-use Rattle.sheet_format.specs.Encoding.{Raw, framed, heading_record, variable_record, constraint_record, move_record, end_record}
-use Rattle.sheet_format.specs.Decoding.{sum_in, table_in, rows_in}
-use Rattle.sheet_format.specs.Verdict.{Tally, Step, goes, stops, unless, between, between_z, used, house_good, ends_good, sum_good, sum_body_good, rows_good, variable_of}
+use Rattle.std.proofs.lemmas.Bool.{ltb-true, leb-true, eqb-false, and_parts, and_from, not-true, lt-ltb, le-leb, ne_eqb, not_from_false}
+use Rattle.sheet_format.specs.Numbers.{two, four, number2, number4}
+use Rattle.sheet_format.specs.Value.{sum, ValidEnds, ValidSum}
+use Rattle.sheet_format.specs.Encoding.{Raw, constraint_record}
+use Rattle.sheet_format.specs.Decoding.{sum_in}
+use Rattle.sheet_format.specs.Verdict.{between, between_z, ends_good, sum_good, sum_body_good}
 use Rattle.sheet_law.proofs.NumberLaws.{two_back, four_back, two_out, four_out}
 use Rattle.sheet_law.proofs.Framing.{Bytes}
-use Rattle.sheet_law.proofs.Rows.{RowsBack, rows_back, rows_there}
 
 -- a record from its kind and its body
 pub same_raw : (r : Raw) (kind : ℕ) (body : List ℕ) → r.kind ≡ kind → r.body ≡ body → r ≡ record { kind = kind; body = body }

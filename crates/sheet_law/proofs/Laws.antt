@@ -1,8 +1,8 @@
 -- The law of sheets.
-use Rattle.std.proofs.Common.{◌≡◌, ℕ, zero, suc, ◌+◌, ◌-◌, ◌*◌, ◌/◌, ◌<◌, ◌≤◌, Bool, true, false, cond, eqb, ltb, List, [], ◌∷◌, ◌++◌, map, length, get_or, take, drop, Some, None, Ok, Err, Option, Result, sym, refl, ap, ◌∙◌, subst, zero-add, arith}
+use Rattle.std.proofs.Common.{◌≡◌, ℕ, zero, suc, ◌+◌, ◌-◌, ◌*◌, ◌/◌, ◌<◌, ◌≤◌, Bool, true, false, cond, ltb, List, [], ◌∷◌, ◌++◌, map, length, take, drop, Some, None, Ok, Err, Option, sym, refl, ap, ◌∙◌, subst, zero-add, arith}
 use Rattle.std.specs.Option.{option_to_list}
 use Rattle.std.specs.List.{flat_map, AllByRecursion as All}
-use Rattle.std.proofs.lemmas.List.{length-append, append_assoc, append-nil, length-map}
+use Rattle.std.proofs.lemmas.List.{append_assoc, append-nil}
 use Rattle.std.proofs.lemmas.Nat.{div-mul-add}
 use Rattle.std.proofs.ByRecursion.{All-append, All-map, All-weaker}
 use Rattle.std.proofs.lemmas.Bool.{ltb-true, ltb-false}
@@ -11,9 +11,9 @@ use Rattle.sheet_format.specs.declared.found.Summary.{Summary}
 use Rattle.sheet_format.specs.declared.faults.Cause.TheVariants.{TooLong}
 use Rattle.sheet_format.specs.declared.faults.SheetFault.{SheetFault}
 use Rattle.sheet_format.specs.Numbers.{two, eight, number2}
-use Rattle.sheet_format.specs.Value.{Constraint, sum, table, Move, add, retract, Sheet, no_variable, size_at, ValidVariable, HousesDiffer, ValidConstraint, ValidMove}
+use Rattle.sheet_format.specs.Value.{Constraint, sum, table, Move, add, retract, Sheet, size_at, ValidVariable, ValidConstraint, ValidMove}
 use Rattle.sheet_format.specs.Encoding.{Raw, framed, heading_record, variable_record, constraint_record, move_record, end_record, records_of, encode, Valid}
-use Rattle.sheet_format.specs.Decoding.{first_record, split, rows_in, as_variable, as_constraint, as_move, table_in, gathered, sheet_of, decode}
+use Rattle.sheet_format.specs.Decoding.{first_record, split, rows_in, as_variable, as_constraint, as_move, gathered, sheet_of, decode}
 use Rattle.sheet_format.specs.Verdict.{Tally, nothing_yet, summary, Verdict, format_fault, walked, verdict}
 use Rattle.sheet_format.specs.Law.{summary_of, Encodes, Law}
 use Rattle.sheet_law.proofs.NumberLaws.{two_back}

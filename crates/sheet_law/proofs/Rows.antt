@@ -1,9 +1,9 @@
 -- The rows of a table, written and read back.
-use Rattle.std.proofs.Common.{◌≡◌, ℕ, zero, suc, ◌+◌, ◌*◌, ◌^◌, ◌<◌, ◌≤◌, Bool, true, false, ◌&&◌, ltb, List, [], ◌∷◌, ◌++◌, length, drop, sym, refl, ap, ◌∙◌, subst, le_trans, arith, pow_mono}
+use Rattle.std.proofs.Common.{◌≡◌, ℕ, zero, suc, ◌+◌, ◌*◌, ◌^◌, ◌<◌, ◌≤◌, true, ltb, List, [], ◌∷◌, ◌++◌, length, sym, refl, ap, ◌∙◌, subst, le_trans, arith, pow_mono}
 use Rattle.std.specs.List.{flat_map, AllByRecursion as All}
-use Rattle.std.proofs.lemmas.List.{length-append, nil_from_length}
+use Rattle.std.proofs.lemmas.List.{nil_from_length}
 use Rattle.std.proofs.lemmas.Bool.{ltb-true, lt-ltb, and_parts, and_from}
-use Rattle.sheet_format.specs.Numbers.{two, four, eight, number2, number4, number8}
+use Rattle.sheet_format.specs.Numbers.{four, eight, number8}
 use Rattle.sheet_format.specs.Verdict.{rows_good}
 use Rattle.sheet_format.specs.Decoding.{rows_in}
 use Rattle.sheet_law.proofs.NumberLaws.{eight_back, four_out, eight_out}

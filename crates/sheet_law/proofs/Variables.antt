@@ -1,17 +1,17 @@
 -- The heading and the variables, read back from records.
-use Rattle.std.proofs.Common.{◌≡◌, ℕ, zero, suc, ◌+◌, ◌*◌, ◌<◌, ◌≤◌, Bool, true, false, not, ◌&&◌, eqb, ltb, ◌⊎◌, List, [], ◌∷◌, ◌++◌, map, length, sym, refl, ap, ◌∙◌, subst, inl, inr, ⊎_elim, arith}
+use Rattle.std.proofs.Common.{◌≡◌, ℕ, zero, suc, ◌+◌, ◌*◌, ◌<◌, ◌≤◌, Bool, true, false, not, eqb, ltb, List, [], ◌∷◌, ◌++◌, map, length, sym, refl, ap, ◌∙◌, subst, ⊎_elim, arith}
 use Rattle.std.specs.List.{AllByRecursion as All}
 use Rattle.std.proofs.lemmas.List.{append_assoc, append-nil, length-append}
 use Rattle.std.proofs.ByRecursion.{All-push}
-use Rattle.std.proofs.lemmas.Bool.{ltb-true, ltb-false, eqb-true, and_parts, not-true, lt-ltb, both_ways}
+use Rattle.std.proofs.lemmas.Bool.{ltb-true, eqb-true, and_parts, not-true, lt-ltb, both_ways}
 use Rattle.sheet_format.specs.declared.found.Variable.{Variable}
 use Rattle.sheet_format.specs.Numbers.{two, number2}
 use Rattle.sheet_format.specs.Value.{ValidVariable, HousesDiffer}
 use Rattle.sheet_format.specs.Encoding.{Raw, heading_record, variable_record}
 use Rattle.sheet_format.specs.Reading.{Shown, shows_heading, shows_variable, shows_sum, shows_table, shows_short_table, shows_add, shows_retract, shows_end}
-use Rattle.sheet_format.specs.Verdict.{Tally, nothing_yet, step, goes, complete, constraints_due, between, used, house_good, variable_of, with_variable}
+use Rattle.sheet_format.specs.Verdict.{Tally, nothing_yet, step, goes, complete, between, used, variable_of}
 use Rattle.sheet_law.proofs.Framing.{Bytes}
-use Rattle.sheet_law.proofs.Held.{HeadingHeld, VariableHeld, ConstraintHeld, MoveHeld, GoesHeld, goes_held, EndHeld, end_held}
+use Rattle.sheet_law.proofs.Held.{HeadingHeld, VariableHeld, GoesHeld, goes_held, EndHeld, end_held}
 use Rattle.sheet_law.proofs.Walks.{past, Ended, Runs}
 use Rattle.sheet_law.proofs.Shows.{KindIs, kind_is}
 use Rattle.sheet_law.proofs.Items.{same_raw, between_is, two_numbers}

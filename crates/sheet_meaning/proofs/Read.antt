@@ -1,12 +1,12 @@
 -- What is read where a constraint begins.
-use Rattle.std.proofs.Common.{◌≡◌, ℕ, zero, suc, ◌+◌, ◌-◌, ◌*◌, ◌/◌, ◌<◌, ◌≤◌, Bool, true, false, cond, List, [], ◌∷◌, ◌++◌, map, length, get_or, take, drop, set, sym, refl, ap, ◌∙◌, subst, add-zero, arith, below_more}
+use Rattle.std.proofs.Common.{◌≡◌, ℕ, ◌+◌, ◌*◌, ◌<◌, ◌≤◌, List, [], ◌∷◌, ◌++◌, map, length, get_or, take, drop, set, sym, refl, ap, ◌∙◌, subst, add-zero, arith, below_more}
 use Rattle.std.specs.List.{flat_map, AllByRecursion as All}
-use Rattle.std.proofs.lemmas.List.{append_assoc, take-append-drop, length-append, drop_more, drop-drop, drop_at, take_at, length-drop, get_or-drop, get_or-set_same, get_or-set_other}
+use Rattle.std.proofs.lemmas.List.{append_assoc, take-append-drop, drop_more, drop-drop, drop_at, take_at, length-drop, get_or-drop, get_or-set_same, get_or-set_other}
 use Rattle.sheet_format.specs.declared.found.Variable.{Variable}
 use Rattle.sheet_format.specs.declared.found.Summary.{Summary}
-use Rattle.sheet_format.specs.Numbers.{eight, number2, number8}
+use Rattle.sheet_format.specs.Numbers.{eight, number2}
 use Rattle.sheet_format.specs.Value.{Constraint, sum, table, Sheet, size_at, ValidVariable, ValidConstraint}
-use Rattle.sheet_format.specs.Encoding.{Raw, framed, heading_record, variable_record, constraint_record, move_record, end_record, records_of, encode, Valid}
+use Rattle.sheet_format.specs.Encoding.{Raw, framed, heading_record, variable_record, constraint_record, move_record, end_record, encode, Valid}
 use Rattle.sheet_format.specs.Decoding.{decode}
 use Rattle.sheet_format.specs.Law.{Encodes}
 use Rattle.sheet_law.proofs.Framing.{Short, framed-length, framed_first}

@@ -1,6 +1,6 @@
 -- The variables of a sheet: where they stand, that their numbers are a numbering, and their sizes by house number.
-use Rattle.std.proofs.Common.{◌≡◌, ℕ, zero, suc, ◌+◌, ◌*◌, ◌<◌, ◌≤◌, Bool, true, false, cond, eqb, ltb, List, [], ◌∷◌, ◌++◌, map, length, get_or, take, drop, Ok, Err, sym, refl, ap, ◌∙◌, subst, ⊎_elim, arith}
-use Rattle.std.specs.List.{range_with_len, flat_map, AllByRecursion as All}
+use Rattle.std.proofs.Common.{◌≡◌, ℕ, zero, suc, ◌+◌, ◌*◌, ◌<◌, ◌≤◌, eqb, ltb, List, [], ◌∷◌, ◌++◌, map, length, get_or, take, drop, Ok, Err, sym, refl, ap, ◌∙◌, subst, ⊎_elim, arith}
+use Rattle.std.specs.List.{flat_map}
 use Rattle.std.proofs.lemmas.List.{drop-drop, get_or-drop, length-drop, length-take-le, get_or-take, at_drop_more, at_drop_all}
 use Rattle.std.proofs.ByRecursion.{All-get_or}
 use Rattle.std.proofs.lemmas.List.FromFn.{length-map-range_with_len, get_or-map-range_with_len, fill_by_all}
@@ -9,9 +9,9 @@ use Rattle.catalog.specs.Numbered.{IsNumbering, entry}
 use Rattle.sheet_format.specs.declared.faults.SheetFault.{SheetFault}
 use Rattle.sheet_format.specs.declared.found.Variable.{Variable}
 use Rattle.sheet_format.specs.declared.found.Summary.{Summary}
-use Rattle.sheet_format.specs.Numbers.{two, number2}
+use Rattle.sheet_format.specs.Numbers.{number2}
 use Rattle.sheet_format.specs.Value.{Sheet, no_variable, size_at, house_at, ValidVariable, HousesDiffer}
-use Rattle.sheet_format.specs.Encoding.{framed, heading_record, variable_record, constraint_record, move_record, end_record, encode, Valid}
+use Rattle.sheet_format.specs.Encoding.{framed, heading_record, variable_record, constraint_record, move_record, end_record, Valid}
 use Rattle.sheet_format.specs.Decoding.{decode}
 use Rattle.sheet_format.specs.Verdict.{verdict}
 use Rattle.sheet_format.specs.Law.{Encodes}

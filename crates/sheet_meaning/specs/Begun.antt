@@ -1,5 +1,5 @@
 -- Where in bytes a record begins.
-use Rattle.std.specs.Prelude.{◌≡◌, ℕ, ◌<◌, List, length, take, drop, slice_index}
+use Rattle.std.specs.Prelude.{◌≡◌, ℕ, List, length, take, drop, slice_index}
 use Rattle.sheet_format.specs.Encoding.{Raw, framed, constraint_record}
 use Rattle.sheet_format.specs.Value.{Sheet}
 use Rattle.sheet_meaning.specs.Meant.{constraint_at}

@@ -1,5 +1,5 @@
 -- What the constraints of a sheet mean.
-use Rattle.std.specs.Prelude.{ℕ, Bool, cond, ◌&&◌, List, [], ◌∷◌, length, ℤ, pos, ◌+ℤ◌, ◌*ℤ◌, is_ok, nat_lt, slice_index, slice_index_or}
+use Rattle.std.specs.Prelude.{ℕ, Bool, cond, ◌&&◌, List, [], length, ℤ, pos, ◌+ℤ◌, ◌*ℤ◌, is_ok, nat_lt, slice_index, slice_index_or}
 use Rattle.bits.specs.Bits.{has_bit}
 use Rattle.catalog.specs.Meaning.{Meaning}
 use Rattle.sheet_format.specs.Value.{Constraint, sum, table, Sheet}

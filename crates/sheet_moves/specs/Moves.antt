@@ -1,5 +1,5 @@
 -- Moves in the code, as the sheet's value has them.
-use Rattle.std.specs.Prelude.{◌≡◌, ℕ, ◌+◌, cond, List, Ok, Err, ◌==◌, slice_index}
+use Rattle.std.specs.Prelude.{◌≡◌, ℕ, ◌+◌, cond, List, Err, ◌==◌, slice_index}
 use Rattle.sheet_format.specs.Numbers.{number2}
 use Rattle.sheet_format.specs.Value as value
 use Rattle.sheet_format.specs.Verdict.{Verdict}

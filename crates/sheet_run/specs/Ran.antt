@@ -1,5 +1,5 @@
 -- What the run of a sheet gives.
-use Rattle.std.specs.Prelude.{◌≡◌, ℕ, List, map, Ok, Err, vec_items}
+use Rattle.std.specs.Prelude.{◌≡◌, ℕ, List, map, Err, vec_items}
 use Rattle.network_law.specs.History.{Run}
 use Rattle.runner.specs.Runs.{calls_for}
 use Rattle.runner.specs.declared.faults.RunFault.{RunFault}

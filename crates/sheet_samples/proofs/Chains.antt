@@ -1,5 +1,5 @@
 -- The sheet that the bytes of the chain hold, and what it means.
-use Rattle.std.proofs.Common.{◌≡◌, ℕ, zero, suc, ◌<◌, cond, List, [], ◌∷◌, get_or, pos, negsuc, is_ok, Ok, sym, refl, ap, ◌∙◌, subst, arith}
+use Rattle.std.proofs.Common.{◌≡◌, ℕ, zero, suc, ◌<◌, cond, [], ◌∷◌, get_or, pos, negsuc, is_ok, Ok, sym, refl, ap, ◌∙◌, subst, arith}
 use Rattle.house.specs.Table.{all_below}
 use Rattle.samples.specs.Sets.{LargestUnder}
 use Rattle.samples.proofs.Settled.{largest_under}

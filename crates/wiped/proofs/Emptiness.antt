@@ -1,5 +1,5 @@
 -- A domain is empty just when its number is 0.
-use Rattle.std.proofs.Common.{◌≡◌, ℕ, ◌^◌, ◌<◌, eqb, List, get_or, refl, ap, ◌∙◌}
+use Rattle.std.proofs.Common.{◌≡◌, ℕ, ◌^◌, ◌<◌, eqb, List, get_or, ap, ◌∙◌}
 use Rattle.std.proofs.lemmas.Bool.{eq-eqb}
 use Rattle.arcs.specs.WipedOut.{Empty, Shown}
 use Rattle.bits.specs.Bits.{domains_of, bit_at}

@@ -1,8 +1,7 @@
-use Rattle.std.proofs.Common.{◌≡◌, ℕ, ◌≤◌, List, length, ◌∙◌, arith}
+use Rattle.std.proofs.Common.{◌≡◌, length, ◌∙◌, arith}
 use native.Mathlib.Nat.{sub-zero}
 use Rattle.std.proofs.lemmas.List.{length-take-le}
-use Rattle.catalog.specs.Meaning.{Meaning}
-use Rattle.scratch.proofs.Accepting.{Accepted, accepted}
+use Rattle.scratch.proofs.Accepting.{accepted}
 use Rattle.scratch.proofs.Translating.{kept_placed, written}
 use Rattle.scratch.proofs.write.Goals as goal
 

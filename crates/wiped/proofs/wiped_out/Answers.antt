@@ -1,4 +1,4 @@
-use Rattle.std.proofs.Common.{◌^◌, ◌<◌, get_or, arith, rules, below_more}
+use Rattle.std.proofs.Common.{◌^◌, ◌<◌, get_or, rules, below_more}
 use Rattle.wiped.proofs.Emptiness.{none_in, one_in}
 use Rattle.wiped.proofs.wiped_out.Goals as goal
 

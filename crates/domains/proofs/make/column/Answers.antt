@@ -1,4 +1,4 @@
-use Rattle.std.proofs.Common.{◌≡◌, eqb, ap, arith}
+use Rattle.std.proofs.Common.{eqb, ap, arith}
 use Rattle.bits.proofs.Bitwise.{bit_of_zero}
 use Rattle.domains.proofs.make.column.Goals as goal
 

@@ -1,6 +1,5 @@
-use Rattle.std.proofs.Common.{◌≡◌, ◌*◌, ◌≤◌, length, refl, arith, rules}
+use Rattle.std.proofs.Common.{◌*◌, ◌≤◌, length, refl, arith, rules}
 use Rattle.domains.specs.Model.{total}
-use Rattle.domains.specs.declared.Constraints.{Constraints}
 use Rattle.domains.specs.Stands.{Stands, with_present}
 use Rattle.domains.proofs.Change.{shape_out, sound_out, settled_out, grew_out, kept_out, time_left}
 use Rattle.domains.proofs.Entries.{total_few}

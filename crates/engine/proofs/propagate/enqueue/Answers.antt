@@ -1,5 +1,4 @@
-use Rattle.std.proofs.Common.{◌≡◌, Bool, List, sym, refl, subst}
-use Rattle.engine.specs.Queued.{Queued}
+use Rattle.std.proofs.Common.{refl}
 use Rattle.engine.proofs.Marks.{queued_push, mark_again, kept_refl}
 use Rattle.engine.proofs.propagate.enqueue.Goals as goal
 

@@ -1,4 +1,4 @@
-use Rattle.std.proofs.Common.{◌≡◌, ℕ, ◌+◌, ◌*◌}
+use Rattle.std.proofs.Common.{◌+◌, ◌*◌}
 use Rattle.queue.specs.Waiting.{Kept}
 use Rattle.domains.specs.Model.{total}
 use Rattle.domains.specs.Sound.{Settled, Sound, Went}

@@ -2,7 +2,6 @@ use Rattle.std.proofs.Common.{◌≡◌, ℕ, ◌+◌, ◌*◌, true, [], ◌∷
 use Rattle.std.proofs.lemmas.Bool.{cond-true, lt-ltb}
 use Rattle.queue.specs.Waiting.{waits}
 use Rattle.domains.specs.declared.Justifications.{Justifications}
-use Rattle.domains.specs.declared.Returning.{Returning}
 use Rattle.domains.specs.Model.{entry}
 use Rattle.domains.proofs.Entries.{entry_read}
 use Rattle.engine.proofs.Frees.{some_room}

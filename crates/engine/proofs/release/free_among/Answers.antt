@@ -1,9 +1,9 @@
-use Rattle.std.proofs.Common.{◌≡◌, ◌+◌, ◌<◌, ◌≤◌, true, sym, ◌∙◌, subst₂, arith, rules}
+use Rattle.std.proofs.Common.{◌+◌, sym, subst₂, arith}
 use Rattle.std.proofs.lemmas.Bool.{both_ways, lt-ltb, ltb-true}
 use Rattle.queue.specs.declared.fifo.Queue.{Queue}
 use Rattle.domains.specs.declared.Domains.{Domains}
 use Rattle.domains.specs.declared.Returning.{Returning}
-use Rattle.engine.proofs.Frees.{Among, among_none, among_skip, among_free, names_yes, names_no}
+use Rattle.engine.proofs.Frees.{Among, among_skip, among_free, names_yes, names_no}
 use Rattle.engine.proofs.release.free_among.Goals as goal
 use Rattle.engine.proofs.release.free_among.Goals.{then-has+then-names, then-has+else-names, else-has}
 

@@ -1,4 +1,4 @@
-use Rattle.std.proofs.Common.{◌≡◌, ◌+◌, sym, subst₂}
+use Rattle.std.proofs.Common.{◌+◌, sym, subst₂}
 use Rattle.queue.specs.declared.fifo.Queue.{Queue}
 use Rattle.domains.specs.declared.Domains.{Domains}
 use Rattle.domains.specs.declared.Returning.{Returning}

@@ -1,4 +1,3 @@
-use Rattle.std.proofs.Common.{◌≡◌, get_or}
 use Rattle.domains.specs.Sound.{Revising}
 use Rattle.engine.proofs.revise.revise.Given as goal
 

@@ -1,10 +1,10 @@
-use Rattle.std.proofs.Common.{◌≡◌, ◌≤◌, length, take, vec_items, sym, refl, ap, ◌∙◌, subst, arith}
+use Rattle.std.proofs.Common.{◌≡◌, take, vec_items, sym, ap, ◌∙◌, subst, arith}
 use Rattle.std.proofs.lemmas.List.{take_all}
 use Rattle.network_law.specs.History.{History, Run}
 use Rattle.network_model.specs.Model.{Linked, moment_of}
-use Rattle.network_model.specs.Performs.{Took, rooms_of}
+use Rattle.network_model.specs.Performs.{rooms_of}
 use Rattle.network_model.proofs.Asking.{right_in}
-use Rattle.network.specs.Requests.{call_of, calls_of}
+use Rattle.network.specs.Requests.{calls_of}
 use Rattle.network.proofs.Runs.{past_trans, same_rooms, call_more}
 use Rattle.network.proofs.calls.perform.Goals as goal
 

@@ -1,7 +1,6 @@
 use Rattle.std.proofs.Common.{◌≡◌, ◌≤◌, length, take, vec_items, vec_len, vec_capacity}
 use Rattle.domains.specs.Stands.{Past}
 use Rattle.network_law.specs.History.{History}
-use Rattle.network_law.specs.Moment.{Blank, Right}
 use Rattle.network_model.specs.Model.{Linked, moment_of}
 use Rattle.network_model.specs.Performs.{rooms_of}
 use Rattle.network.specs.Requests.{calls_of}

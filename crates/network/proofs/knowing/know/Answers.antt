@@ -1,6 +1,6 @@
-use Rattle.std.proofs.Common.{◌<◌, refl, ◌∙◌, arith}
+use Rattle.std.proofs.Common.{refl, arith}
 use Rattle.network_model.proofs.Asking.{stands_in}
-use Rattle.network_model.proofs.Learning.{learnt, learnt_already}
+use Rattle.network_model.proofs.Learning.{learnt}
 use Rattle.network.proofs.knowing.know.Goals as goal
 
 pub rows-rows-requires : goal.rows-rows-requires

@@ -1,4 +1,4 @@
-use Rattle.std.proofs.Common.{◌≡◌, string_bytes, ◌∙◌}
+use Rattle.std.proofs.Common.{string_bytes, ◌∙◌}
 use Rattle.run_text.specs.Lines.{head_text}
 use Rattle.run_text.proofs.Values.{none_yet, value_more}
 use Rattle.run_text.proofs.domains.domain_line.Goals as goal

@@ -1,4 +1,4 @@
-use Rattle.std.proofs.Common.{◌≡◌, [], ◌∷◌, ◌++◌, map, length, vec_items, ap, ◌∙◌}
+use Rattle.std.proofs.Common.{[], ◌∷◌, ◌++◌, map, length, ap, ◌∙◌}
 use Rattle.network_law.specs.Calls.{opens}
 use Rattle.network.specs.Requests.{calls_of}
 use Rattle.runner.specs.Runs.{move_call, domains_asked}

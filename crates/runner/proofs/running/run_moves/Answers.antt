@@ -1,4 +1,4 @@
-use Rattle.std.proofs.Common.{◌≡◌, List, length, IfOk, vec_items, sym, ap, ◌∙◌, subst}
+use Rattle.std.proofs.Common.{◌≡◌, List, length, IfOk, vec_items, ap, ◌∙◌, subst}
 use Rattle.network_law.specs.Calls.{Rooms, Call}
 use Rattle.network_law.specs.History.{Run}
 use Rattle.network.specs.Requests.{calls_of}

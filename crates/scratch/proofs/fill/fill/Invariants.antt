@@ -1,4 +1,4 @@
-use Rattle.std.proofs.Common.{◌≡◌, length, take}
+use Rattle.std.proofs.Common.{take}
 use Rattle.scratch.specs.Filled.{Filled}
 use Rattle.scratch.specs.Named.{named}
 use Rattle.scratch.proofs.fill.fill.Given as goal

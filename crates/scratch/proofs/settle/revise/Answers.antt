@@ -1,4 +1,4 @@
-use Rattle.std.proofs.Common.{◌^◌, ◌<◌, arith}
+use Rattle.std.proofs.Common.{arith}
 use Rattle.scratch.proofs.Sweeping.{revised_made}
 use Rattle.scratch.proofs.settle.revise.Goals as goal
 

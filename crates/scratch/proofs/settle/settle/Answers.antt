@@ -1,7 +1,6 @@
-use Rattle.std.proofs.Common.{◌≡◌, ◌<◌, refl, ap, subst, arith}
+use Rattle.std.proofs.Common.{◌≡◌, subst, arith}
 use Rattle.std.proofs.lemmas.Bool.{and_parts}
 use Rattle.arcs.proofs.Shrink.{around_bound}
-use Rattle.arcs.specs.Around.{Around}
 use Rattle.bits.specs.Bits.{domains_of}
 use Rattle.scratch.specs.Rows.{arcs_of_rows}
 use Rattle.scratch.specs.Settling.{Waits}

@@ -1,4 +1,4 @@
-use Rattle.std.proofs.Common.{◌≡◌, ℕ, ◌+◌, ◌-◌, ◌≤◌, eqb, List, length, Ok, sym, refl, ap, ◌∙◌, arith}
+use Rattle.std.proofs.Common.{◌≡◌, ℕ, ◌+◌, ◌-◌, ◌≤◌, eqb, List, length, Ok, sym, ap, ◌∙◌, arith}
 use Rattle.std.proofs.lemmas.Bool.{ne_eqb, cond-false}
 use Rattle.sheet_format.specs.Faults.{counted_result}
 use Rattle.sheet_format.specs.Reading.{reading, taken}
@@ -6,7 +6,6 @@ use Rattle.sheet_format.specs.Verdict.{Tally, goes, ends, step}
 use Rattle.sheet_law.proofs.Held.{step_moves}
 use Rattle.sheet.specs.Outcome.{shown_by}
 use Rattle.sheet.specs.Steps.{tally_of, flow_of}
-use Rattle.sheet.specs.Advance.{placed_result}
 use Rattle.sheet.proofs.Answered.{read_ok, flow_ok, left_shorter, goes_on, ends_here}
 use Rattle.sheet.proofs.checking.advance.Goals as goal
 

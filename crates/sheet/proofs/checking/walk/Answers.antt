@@ -1,9 +1,9 @@
-use Rattle.std.proofs.Common.{◌≡◌, ℕ, suc, ◌+◌, ◌-◌, ◌≤◌, List, length, take, drop, Ok, Err, sym, refl, ap, ◌∙◌, subst, arith}
+use Rattle.std.proofs.Common.{◌≡◌, ℕ, suc, ◌+◌, ◌-◌, List, length, take, drop, Ok, Err, sym, ap, ◌∙◌, subst, arith}
 use Rattle.std.proofs.lemmas.List.{take_rest, length-drop}
 use Rattle.std.proofs.lemmas.Result.{err_from_is_err_and}
-use Rattle.sheet_format.specs.Verdict.{Tally, walked, nothing_yet}
+use Rattle.sheet_format.specs.Verdict.{Tally, walked}
 use Rattle.sheet.specs.Steps.{tally_of}
-use Rattle.sheet.specs.Advance.{Advanced, onward}
+use Rattle.sheet.specs.Advance.{Advanced}
 use Rattle.sheet.proofs.Answered.{walk_more}
 use Rattle.sheet.proofs.checking.walk.Goals as goal
 

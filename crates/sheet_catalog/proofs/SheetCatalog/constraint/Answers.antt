@@ -1,4 +1,4 @@
-use Rattle.std.proofs.Common.{◌+◌, ◌≤◌, length, get_or, ◌∙◌, arith}
+use Rattle.std.proofs.Common.{get_or, ◌∙◌, arith}
 use Rattle.sheet_format.specs.Encoding.{constraint_record}
 use Rattle.sheet_meaning.specs.Meant.{constraint_at, sheet_in}
 use Rattle.sheet_meaning.proofs.Read.{begun_low}

@@ -1,4 +1,4 @@
-use Rattle.std.proofs.Common.{◌≡◌, ℕ, Option, sym, subst}
+use Rattle.std.proofs.Common.{sym, subst}
 use Rattle.catalog.specs.Meaning.{GoodEnds}
 use Rattle.sheet_meaning.specs.Meant.{meaning_of, sheet_in}
 use Rattle.sheet_meaning.proofs.Sheets.{bytes_lawful, good_ends}

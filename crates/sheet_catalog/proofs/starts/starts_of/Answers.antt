@@ -1,5 +1,4 @@
-use Rattle.std.proofs.Common.{◌≡◌, ℕ, ◌+◌, ◌<◌, ◌≤◌, List, length, drop, ap, ◌∙◌, subst, arith, length-set}
-use Rattle.sheet_format.specs.declared.found.Summary.{Summary}
+use Rattle.std.proofs.Common.{◌≡◌, ℕ, ◌+◌, ◌<◌, ◌≤◌, List, length, drop, ap, ◌∙◌, arith, length-set}
 use Rattle.sheet_format.specs.Decoding.{decode}
 use Rattle.sheet_meaning.proofs.Read.{Stepped, stepped_in, first_place, few_in, short_in, begun_more}
 use Rattle.std.proofs.lemmas.List.{length-replicate}

@@ -1,4 +1,4 @@
-use Rattle.std.proofs.Common.{◌≡◌, ℕ, ◌<◌, ◌≤◌, length, drop}
+use Rattle.std.proofs.Common.{◌≡◌, ℕ, ◌<◌, length, drop}
 use Rattle.sheet_format.specs.Decoding.{decode}
 use Rattle.sheet_meaning.specs.Begun.{Begun}
 use Rattle.sheet_meaning.proofs.Read.{from_constraint}

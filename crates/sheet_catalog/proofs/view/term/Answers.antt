@@ -1,5 +1,5 @@
-use Rattle.std.proofs.Common.{◌≡◌, ℤ, pos, negsuc, ◌*ℤ◌, ◌≤ℤ◌, sym, ◌∙◌, subst, w64, SFits, to_z, of_z}
-use Rattle.sheet_catalog.proofs.Terms.{Small, product_small, small_fits, coded, coded_value}
+use Rattle.std.proofs.Common.{ℤ, pos, negsuc, ◌*ℤ◌, ◌≤ℤ◌, sym, subst, w64, SFits}
+use Rattle.sheet_catalog.proofs.Terms.{product_small, small_fits, coded, coded_value}
 use Rattle.sheet_catalog.proofs.view.term.Goals as goal
 
 pub overflow_mul-result : goal.overflow_mul-result

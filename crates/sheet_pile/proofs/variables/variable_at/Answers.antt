@@ -1,6 +1,6 @@
 use Rattle.std.proofs.Common.{◌≡◌, ℕ, ap, ◌∙◌, arith}
 use Rattle.sheet_format.specs.declared.found.Variable.{Variable}
-use Rattle.sheet_meaning.proofs.Variables.{VariableThere, variable_there}
+use Rattle.sheet_meaning.proofs.Variables.{variable_there}
 use Rattle.sheet_pile.proofs.variables.variable_at.Goals as goal
 
 same : (w : Variable) (size house : ℕ) → size ≡ w.size → house ≡ w.house → ◌≡◌ {A = Variable} (record { size = size; house = house }) w

@@ -1,4 +1,4 @@
-use Rattle.std.proofs.Common.{◌≡◌, ℕ, List, vec_items, subst}
+use Rattle.std.proofs.Common.{ℕ, List, vec_items, subst}
 use Rattle.catalog.specs.Meaning.{Meaning}
 use Rattle.network_law.specs.Calls.{Rooms}
 use Rattle.network_law.specs.History.{Run}

@@ -1,4 +1,4 @@
-use Rattle.std.proofs.Common.{◌≡◌, sym, arith}
+use Rattle.std.proofs.Common.{sym, arith}
 use Rattle.sheetpile.proofs.Counted.{beside_none, beside_yes, beside_no}
 use Rattle.sheetpile.proofs.counting.beside.Goals as goal
 use Rattle.sheetpile.proofs.counting.beside.Goals.{then-allows, else-allows}

@@ -1,4 +1,4 @@
-use Rattle.std.proofs.Common.{◌≡◌, sym, arith}
+use Rattle.std.proofs.Common.{sym, arith}
 use Rattle.sheetpile.proofs.Counted.{pairs_none, pairs_more}
 use Rattle.sheetpile.proofs.counting.pairs.Goals as goal
 

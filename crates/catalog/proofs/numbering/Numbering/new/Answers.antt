@@ -1,4 +1,4 @@
-use Rattle.std.proofs.Common.{◌≡◌, ◌<◌, length, arith}
+use Rattle.std.proofs.Common.{◌≡◌, length, arith}
 use Rattle.catalog.proofs.Numberings.{from_entries}
 use Rattle.catalog.proofs.numbering.Numbering.new.Goals as goal
 

@@ -1,4 +1,4 @@
-use Rattle.std.proofs.Common.{◌≡◌, length, refl, arith, rules}
+use Rattle.std.proofs.Common.{length, refl, arith}
 use Rattle.domains.proofs.Props.{stands_out}
 use Rattle.engine.proofs.Called.{addable, right_now}
 use Rattle.engine.proofs.state.Engine.add.Goals as goal

@@ -1,5 +1,4 @@
-use Rattle.std.proofs.Common.{◌≡◌, ◌≤◌, length, sym, refl, ◌∙◌, arith, rules}
-use Rattle.domains.specs.Model.{total}
+use Rattle.std.proofs.Common.{length, refl, arith}
 use Rattle.domains.proofs.Props.{stands_out}
 use Rattle.engine.proofs.Called.{retractable, right_now, more_shown}
 use Rattle.engine.proofs.state.Engine.retract.Goals as goal

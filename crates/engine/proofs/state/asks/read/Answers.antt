@@ -1,5 +1,4 @@
-use Rattle.std.proofs.Common.{◌≡◌, ℕ, ◌+◌, ◌*◌, get_or, sym, ap, ◌∙◌}
-use Rattle.domains.specs.declared.Justification.{Justification}
+use Rattle.std.proofs.Common.{ℕ, ◌+◌, ◌*◌, get_or, sym, ap, ◌∙◌}
 use Rattle.domains.specs.Model.{entry}
 use Rattle.domains.proofs.Entries.{entry_read}
 use Rattle.engine.proofs.state.asks.read.Goals as goal

@@ -1,5 +1,5 @@
-use Rattle.std.proofs.Common.{◌≡◌, ℕ, ◌≤◌, get_or, sym, ap, ◌∙◌, arith}
-use lib.Count.{ones, ones-le}
+use Rattle.std.proofs.Common.{get_or, ◌∙◌, arith}
+use lib.Count.{ones-le}
 use Rattle.domains.proofs.Entries.{total-take, total_all}
 use Rattle.engine.proofs.state.calls.count.Goals as goal
 

@@ -1,4 +1,4 @@
-use Rattle.std.proofs.Common.{length, Some, sym, refl, ap, ◌∙◌}
+use Rattle.std.proofs.Common.{Some, sym, refl, ap, ◌∙◌}
 use Rattle.std.proofs.lemmas.Result.{err_from_is_err_and}
 use Rattle.network_law.specs.Calls.{opens}
 use Rattle.network_model.specs.Model.{moment_of}

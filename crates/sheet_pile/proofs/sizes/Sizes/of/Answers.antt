@@ -1,4 +1,4 @@
-use Rattle.std.proofs.Common.{◌≡◌, ℕ, List, take, replicate, sym, subst}
+use Rattle.std.proofs.Common.{ℕ, List, take, replicate, sym, subst}
 use Rattle.sheet_meaning.specs.Meant.{sheet_in}
 use Rattle.sheet_meaning.specs.Placed.{SizesOf}
 use Rattle.sheet_meaning.proofs.Variables.{sizes_in, refused_sizes}

@@ -1,4 +1,4 @@
-use Rattle.std.proofs.Common.{◌≡◌, ◌<◌, ◌≤◌, length, sym, ◌∙◌, arith}
+use Rattle.std.proofs.Common.{◌<◌, length, sym, ◌∙◌, arith}
 use Rattle.sheet_format.specs.Decoding.{decode}
 use Rattle.sheet_meaning.proofs.Variables.{many_in, house_here, house_later, house_nowhere}
 use Rattle.sheet_pile.proofs.sizes.reading.size_of_house.Goals as goal
