@@ -53,7 +53,7 @@ pub record Facing (c : Constraints) (a : Arc) : Type 0 where
   pub constraint_low : a.constraint < 128
   pub near_low : a.near < 32
   pub far_low : a.far < 32
-  pub apart : a.near ≡ a.far → ⊥
+  pub apart : a.near ≢ a.far
   pub rows_low : a.rows + 64 ≤ 16384
   pub on : (arcs_of c).on a.near a.constraint ≡ true
   pub far : (arcs_of c).far a.near a.constraint ≡ a.far

@@ -1,5 +1,5 @@
 // Data to begin with.
-ghost use Rattle.std.specs.Prelude.{◌≡◌, ℕ, ◌^◌, ◌<◌, min, ◌&&◌, ltb, length, replicate, if◌then◌else◌, nat_lt, slice_index};
+ghost use Rattle.std.specs.Prelude.{◌≡◌, ℕ, ◌^◌, ◌<◌, min, ◌&&◌, nat_lt, length, replicate, if◌then◌else◌, slice_index};
 ghost use Rattle.bits.specs.Bits.{domains_of, has_bit};
 ghost use Rattle.domains.specs.Make.{no_constraints, no_domains};
 
@@ -36,7 +36,7 @@ pub fn no_domains() -> Domains
 // The first 32 sizes, each at most 64, and 0 where there are fewer.
 pub fn capped(sizes: &[u8]) -> [u8; 32]
     ensures long { length result ≡ 32 }
-    ensures sizes { (i : ℕ) → slice_index result i ≡ (if ltb i 32 then min 64 (slice_index sizes.now i) else 0) }
+    ensures sizes { (i : ℕ) → slice_index result i ≡ (if nat_lt i 32 then min 64 (slice_index sizes.now i) else 0) }
 {
     let mut all = [0; 32];
     for i in 0..32 {

@@ -92,17 +92,17 @@ module _ (m : Meaning) (lawful : Lawful m) (c : Constraints) (d : Domains) (n : 
 -- ---- adding and retracting
 
 module _ (m : Meaning) (lawful : Lawful m) (c c₁ c' : Constraints) (d d' : Domains) (n : ℕ) (known known' : List Bool) (p k : ℕ) (rooms : Rooms) (o : Option ℕ)
-    (links : Links m c n known) (links' : Links m c' n known') (same-sizes : c₁.sizes ≡ c.sizes) (same_present : c₁.present ≡ c.present) (low : p < length c₁.present)
+    (links : Links m c n known) (links' : Links m c' n known') (same_sizes : c₁.sizes ≡ c.sizes) (same_present : c₁.present ≡ c.present) (low : p < length c₁.present)
     (long : length c'.sizes ≡ 32) (sized : Sized d) (sized' : Sized d') (wiped : WipedOut (shown d') n o) where
   book_set : (b : Bool) → c' ≡ with_present c₁ p b → Agrees (moment c' d' n).book (record { sizes = take n c.sizes; present = λ q. cond (eqb q p) b (is_present c q) })
   book_set b e =
       record {
-        sizes = ap (λ v. take n v.sizes) e ∙ ap (take n) same-sizes;
+        sizes = ap (λ v. take n v.sizes) e ∙ ap (take n) same_sizes;
         present = λ q. ap (λ v. is_present v q) e ∙ present_set c₁ p b low q ∙ ap (λ v. cond (eqb q p) b (get_or v q false)) same_present;
       }
 
   same_within : (b : Bool) → c' ≡ with_present c₁ p b → within c' ≡ within c
-  same_within b e = ap within e ∙ ap within_sizes same-sizes
+  same_within b e = ap within e ∙ ap within_sizes same_sizes
 
   pub step_add : refusal m (moment c d n).book (spent d.clock) (adds p rooms) ≡ None → Added c₁ c' d d' p k
       → Step m (moment c d n) (adds p rooms) (Changed (record { values = k; wiped = o })) (moment c' d' n)

@@ -1,5 +1,5 @@
 -- The meanings of three small catalogs of two constraints each.
-use Rattle.std.specs.Prelude.{ℕ, ◌+◌, Bool, cond, not, ◌&&◌, leb, ◌==◌, nat_le, nat_lt}
+use Rattle.std.specs.Prelude.{ℕ, ◌+◌, Bool, cond, not, ◌&&◌, nat_le, ◌==◌, nat_lt}
 use Rattle.std.proofs.Common.{arith, lit<, lit≤}
 use Rattle.catalog.specs.Meaning.{Meaning, Lawful}
 use Rattle.samples.specs.declared.Sample.{Sample}
@@ -15,7 +15,7 @@ pair f g = record { count = 2; left = λ _. 0; right = λ _. 1; allows = λ p x 
 
 -- x ≤ y, and x ≠ y
 abbrev pub ordered : Meaning
-ordered = pair (λ x y. leb x y) (λ x y. not (x == y))
+ordered = pair (λ x y. nat_le x y) (λ x y. not (x == y))
 
 -- x < y, and x > y
 abbrev pub crossed : Meaning
@@ -44,5 +44,5 @@ pair_lawful f g = record {
 
 pub sample_lawful : (s : Sample) → Lawful (meaning_of s)
 sample_lawful Chain = chain_lawful
-sample_lawful Ordered = pair_lawful (λ x y. leb x y) (λ x y. not (x == y))
+sample_lawful Ordered = pair_lawful (λ x y. nat_le x y) (λ x y. not (x == y))
 sample_lawful Crossed = pair_lawful (λ x y. nat_lt x y) (λ x y. nat_lt y x)

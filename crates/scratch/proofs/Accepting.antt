@@ -62,11 +62,11 @@ constraint_between m n p e =
       right = ltb-true (m.right p) n v.1;
     }
 
-pub named-between : (m : Meaning) (n : ℕ) (ps : List ℕ) → indices_refusal m n ps ≡ None → (p : ℕ) → named ps p ≡ true → Between m n p
-named-between m n [] e p h = absurd (both_ways false refl h)
-named-between m n (q ∷ ps) e p h =
+pub named_between : (m : Meaning) (n : ℕ) (ps : List ℕ) → indices_refusal m n ps ≡ None → (p : ℕ) → named ps p ≡ true → Between m n p
+named_between m n [] e p h = absurd (both_ways false refl h)
+named_between m n (q ∷ ps) e p h =
     let t = first_none (constraint_refusal m n q) (indices_refusal m n ps) e in
-    ⊎_elim (λ s. subst (λ j. Between m n j) (eqb-true q p s) (constraint_between m n q t.0)) (λ s. named-between m n ps t.1 p s)
+    ⊎_elim (λ s. subst (λ j. Between m n j) (eqb-true q p s) (constraint_between m n q t.0)) (λ s. named_between m n ps t.1 p s)
     (or_cases (eqb q p) (named ps p) h)
 
 -- what is known where nothing refuses the arguments

@@ -52,14 +52,14 @@ module _ (ks : List Arc) (p : ℕ) (there back : Arc) where
       → Holds sizes (m.right p) (m.left p) (λ y x. allowed m p x y) back → (chosen : ℕ → Bool) → Filled m sizes chosen ks
       → Filled m sizes (λ q. eqb p q || chosen q) (set (set ks (2 * p) there) (2 * p + 1) back)
   unfolding written
-  kept_put m sizes len low holds-there holds-back chosen filled = record {
+  kept_put m sizes len low holds_there holds_back chosen filled = record {
     kept =
         λ q h.
         ⊎_elim
         (λ e. subst (λ j. Kept m sizes written j) e
         (record {
-          there = subst (λ arc. Holds sizes (m.left p) (m.right p) (allowed m p) arc) (sym (at_there len low)) holds-there;
-          back = subst (λ arc. Holds sizes (m.right p) (m.left p) (λ y x. allowed m p x y) arc) (sym (at_back len low)) holds-back;
+          there = subst (λ arc. Holds sizes (m.left p) (m.right p) (allowed m p) arc) (sym (at_there len low)) holds_there;
+          back = subst (λ arc. Holds sizes (m.right p) (m.left p) (λ y x. allowed m p x y) arc) (sym (at_back len low)) holds_back;
         }))
         (λ ne.
         let k : Kept m sizes ks q = filled.kept q (⊎_elim (λ t. absurd (eqb-false p q (ne_eqb p q ne) (eqb-true p q t))) (λ t. t) (or_cases (eqb p q) (chosen q) h)) in
@@ -80,10 +80,10 @@ module _ (ks : List Arc) (p : ℕ) (there back : Arc) where
   }
 
 -- an arc turned holds the pairs turned
-turned-holds
+turned_holds
     : (sizes : List ℕ) (a b : ℕ) (fits : ℕ → ℕ → Bool) (there back : Arc) → get_or sizes a 0 ≤ 64 → get_or sizes b 0 ≤ 64 → Holds sizes a b fits there
     → Turned there back → Holds sizes b a (λ y x. fits x y) back
-turned-holds sizes a b fits there back la lb h t = record {
+turned_holds sizes a b fits there back la lb h t = record {
   on = t.on ∙ h.on;
   at_near = t.near ∙ h.at_far;
   at_far = t.far ∙ h.at_near;
@@ -97,7 +97,7 @@ pub put_filled
     → Adds m sizes p ks (set (set ks (2 * p) there) (2 * p + 1) back)
 put_filled m sizes ks p a b there back ends bounded la lb low len ht t =
     let e : (p < m.count) × (a ≡ m.left p) × (b ≡ m.right p) = ends_known m p a b ends in
-    let hb : Holds sizes b a (λ y x. allowed m p x y) back = turned-holds sizes a b (allowed m p) there back (bounded a la) (bounded b lb) ht t in
+    let hb : Holds sizes b a (λ y x. allowed m p x y) back = turned_holds sizes a b (allowed m p) there back (bounded a la) (bounded b lb) ht t in
     kept_put ks p there back m sizes len low
     (subst (λ j. Holds sizes j (m.right p) (allowed m p) there) e.1 (subst (λ j. Holds sizes a j (allowed m p) there) e.2 ht))
     (subst (λ j. Holds sizes (m.right p) j (λ y x. allowed m p x y) back) e.1 (subst (λ j. Holds sizes j a (λ y x. allowed m p x y) back) e.2 hb))
@@ -143,10 +143,10 @@ named_push (r ∷ ps) p q = ap (λ b. eqb r q || b) (named_push ps p q) ∙ swap
     swapped true false c = refl
     swapped false b c = refl
 
-pub Filled-more
+pub filled_more
     : (m : Meaning) (sizes : List ℕ) (ks : List Arc) (ps : List ℕ) (i : ℕ) → i < length ps
     → Filled m sizes (λ q. eqb (get_or ps i 0) q || named (take i ps) q) ks → Filled m sizes (named (take (i + 1) ps)) ks
-Filled-more m sizes ks ps i h filled =
+filled_more m sizes ks ps i h filled =
     filled_same m sizes (λ q. eqb (get_or ps i 0) q || named (take i ps) q) (named (take (i + 1) ps)) ks
     (λ q. sym (ap (λ xs. named xs q) (take_more ps i 0 h) ∙ named_push (take i ps) (get_or ps i 0) q)) filled
 

@@ -44,7 +44,7 @@ revised_made arc before left fits kept =
     }
 
 module _ (ks : List Arc) (k : ℕ) (before after : List ℕ) (lost : Bool)
-    (is-on : (get_or ks k off_arc).on ≡ true)
+    (is_on : (get_or ks k off_arc).on ≡ true)
     (within : (get_or ks k off_arc).near < length before)
     (r : Revised (get_or ks k off_arc) before after lost) where
   -- the domain of the near variable after, and the others
@@ -74,16 +74,16 @@ module _ (ks : List Arc) (k : ℕ) (before after : List ℕ) (lost : Bool)
     where
       at_it : i ≡ (get_or ks k off_arc).near → Lost (arcs_of_rows ks) (domains_of before) i x
       at_it e =
-          let no-support : ltb 0 (bit_and (get_or (get_or ks k off_arc).rows x 0) (get_or before (get_or ks k off_arc).far 0)) ≡ false =
+          let no_support : ltb 0 (bit_and (get_or (get_or ks k off_arc).rows x 0) (get_or before (get_or ks k off_arc).far 0)) ≡ false =
           ⊎_elim (λ f. absurd (both_ways _ f (subst (λ j. domains_of before j x ≡ true) e h))) (λ f. f)
           (and_cases _ _ (sym (near_stays x) ∙ subst (λ j. domains_of after j x ≡ false) e out))
           in
           record {
             reason = k;
-            on = and_from _ _ is-on (eq-eqb (get_or ks k off_arc).near i (sym e));
+            on = and_from _ _ is_on (eq-eqb (get_or ks k off_arc).near i (sym e));
             bare =
                 λ y shown beside.
-                both_ways _ no-support
+                both_ways _ no_support
                 (lt-ltb 0 (bit_and (get_or (get_or ks k off_arc).rows x 0) (get_or before (get_or ks k off_arc).far 0))
                 (share_positive (get_or (get_or ks k off_arc).rows x 0) (get_or before (get_or ks k off_arc).far 0) y beside shown));
           }
@@ -163,13 +163,13 @@ swept_same ks stale upto before now after next lost s on within r e =
     record {
       around = λ b h. revised_around ks upto now after lost on within r b (s.around b h);
       settled =
-          λ waits i k is-on t fresh.
+          λ waits i k is_on t fresh.
           ⊎_elim
           (λ q. subst (λ j. Settled (arcs_of_rows ks) (domains_of after) i j) (sym q)
           (revised_settled ks upto now after lost on within r (λ y h. ap (λ xs. domains_of xs (get_or ks upto off_arc).far y) (r.same e) ∙ h) i
-          (subst (λ j. (arcs_of_rows ks).on i j ≡ true) q is-on)))
+          (subst (λ j. (arcs_of_rows ks).on i j ≡ true) q is_on)))
           (λ ne. subst (λ xs. Settled (arcs_of_rows ks) (domains_of xs) i k) (sym (r.same e))
-          (s.settled waits i k is-on (⊎_elim (λ l. inl (omega arith)) inr t) fresh))
+          (s.settled waits i k is_on (⊎_elim (λ l. inl (omega arith)) inr t) fresh))
           (cases_eq k upto);
       no_more = omega (arith, s.no_more, revised_no_more ks upto now after lost on within r e);
       fewer = λ h. omega (arith, s.fewer h, revised_no_more ks upto now after lost on within r e);
@@ -182,21 +182,21 @@ pub swept_lost
     → (get_or ks upto off_arc).near < 64
     → ((y : ℕ) → has_bit next' y ≡ (has_bit next y || (eqb (get_or ks upto off_arc).near y && ltb (get_or ks upto off_arc).near 64)))
     → Swept ks stale (upto + 1) before after next'
-swept_lost ks stale upto before now after next next' lost s on within r e low with-near =
+swept_lost ks stale upto before now after next next' lost s on within r e low with_near =
     record {
       around = λ b h. revised_around ks upto now after lost on within r b (s.around b h);
       settled =
-          λ waits i k is-on t fresh.
+          λ waits i k is_on t fresh.
           let ne : (get_or ks k off_arc).far ≡ (get_or ks upto off_arc).near → ⊥ = apart (get_or ks k off_arc).far fresh in
           ⊎_elim
           (λ q. subst (λ j. Settled (arcs_of_rows ks) (domains_of after) i j) (sym q)
           (revised_settled ks upto now after lost on within r
           (λ y h. other_same ks upto now after lost on within r (get_or ks upto off_arc).far y
           (subst (λ j. (get_or ks j off_arc).far ≡ (get_or ks upto off_arc).near → ⊥) q ne) ∙ h)
-          i (subst (λ j. (arcs_of_rows ks).on i j ≡ true) q is-on)))
+          i (subst (λ j. (arcs_of_rows ks).on i j ≡ true) q is_on)))
           (λ other. settled_stays ks upto now after lost on within r i k ne
-          (s.settled waits i k is-on (⊎_elim (λ l. inl (omega arith)) inr t)
-          (or_parts _ _ (sym (with-near (get_or ks k off_arc).far) ∙ fresh)).0))
+          (s.settled waits i k is_on (⊎_elim (λ l. inl (omega arith)) inr t)
+          (or_parts _ _ (sym (with_near (get_or ks k off_arc).far) ∙ fresh)).0))
           (cases_eq k upto);
       no_more = omega (arith, s.no_more, revised_fewer ks upto now after lost on within r e);
       fewer = λ h. omega (arith, s.no_more, revised_fewer ks upto now after lost on within r e);
@@ -205,7 +205,7 @@ swept_lost ks stale upto before now after next next' lost s on within r e low wi
     apart : (j : ℕ) → has_bit next' j ≡ false → j ≡ (get_or ks upto off_arc).near → ⊥
     apart j fresh q =
         let here : Bool = eqb (get_or ks upto off_arc).near j && ltb (get_or ks upto off_arc).near 64 in
-        both_ways here (or_parts (has_bit next j) here (sym (with-near j) ∙ fresh)).1
+        both_ways here (or_parts (has_bit next j) here (sym (with_near j) ∙ fresh)).1
         (and_from (eqb (get_or ks upto off_arc).near j) (ltb (get_or ks upto off_arc).near 64) (eq-eqb (get_or ks upto off_arc).near j (sym q))
         (lt-ltb (get_or ks upto off_arc).near 64 low))
 
@@ -228,16 +228,16 @@ module _ (ks : List Arc) (stale k : ℕ) (before now : List ℕ) (next : ℕ) (s
   pub step_lost
       : (after : List ℕ) (next' : ℕ) → arc.on ≡ true → arc.near < length now → length now ≤ 64 → Revised arc now after true
       → ((y : ℕ) → has_bit next' y ≡ (has_bit next y || (eqb arc.near y && ltb arc.near 64))) → Swept ks stale (k + 1) before after next'
-  step_lost after next' on within few r with-near =
+  step_lost after next' on within few r with_near =
       swept_lost ks stale k before now after next next' true s (subst (λ a. a.on ≡ true) is on) (subst (λ a. a.near < length now) is within)
       (subst (λ a. Revised a now after true) is r) refl (subst (λ a. a.near < 64) is (omega arith))
-      (subst (λ a. (y : ℕ) → has_bit next' y ≡ (has_bit next y || (eqb a.near y && ltb a.near 64))) is with-near)
+      (subst (λ a. (y : ℕ) → has_bit next' y ≡ (has_bit next y || (eqb a.near y && ltb a.near 64))) is with_near)
 
 -- a whole pass: each reason whose far variable did not change in it is settled
-pub Swept-all
+pub swept_all
     : (ks : List Arc) (stale : ℕ) (before after : List ℕ) (next : ℕ) → Swept ks stale (length ks) before after next
     → Waits (arcs_of_rows ks) stale (domains_of before) → Waits (arcs_of_rows ks) next (domains_of after)
-Swept-all ks stale before after next s waits i k on fresh =
+swept_all ks stale before after next s waits i k on fresh =
     s.settled waits i k on
     (⊎_elim inl
     (λ past. absurd (both_ways _ (ap (λ arc. arc.on) (get_or_past ks k off_arc past)) (and_parts _ _ on).0))

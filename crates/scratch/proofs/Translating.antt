@@ -17,13 +17,13 @@ use Rattle.scratch.specs.Refused.{indices_refusal}
 use Rattle.scratch.specs.Rows.{off_arc, arcs_of_rows}
 use Rattle.scratch.specs.Settling.{Placed}
 use Rattle.scratch.specs.Written.{Written}
-use Rattle.scratch.proofs.Accepting.{Between, named-between}
+use Rattle.scratch.proofs.Accepting.{Between, named_between}
 
 -- what a reason of `a` asks is asked by an arc that holds it
-asked-by-arc
+asked_by_arc
     : (a : Arcs) (sizes : List ℕ) (ks : List Arc) (i r k near far : ℕ) (fits : ℕ → ℕ → Bool) → Holds sizes near far fits (get_or ks k off_arc) → near ≡ i
     → a.far i r ≡ far → ((x y : ℕ) → a.fits i r x y ≡ fits x y) → Asked (within_sizes sizes) a (arcs_of_rows ks) i r
-asked-by-arc a sizes ks i r k near far fits holds e e' f = record {
+asked_by_arc a sizes ks i r k near far fits holds e e' f = record {
   reason = k;
   on = and_from _ _ holds.on (eq-eqb (get_or ks k off_arc).near i (holds.at_near ∙ e));
   far = holds.at_far ∙ sym e';
@@ -37,10 +37,10 @@ asked-by-arc a sizes ks i r k near far fits holds e e' f = record {
 }
 
 -- and what an arc asks is asked by the reason that it holds
-asked-of-arc
+asked_of_arc
     : (a : Arcs) (sizes : List ℕ) (ks : List Arc) (i r k near far : ℕ) (fits : ℕ → ℕ → Bool) → Holds sizes near far fits (get_or ks k off_arc) → near ≡ i
     → a.on i r ≡ true → a.far i r ≡ far → ((x y : ℕ) → a.fits i r x y ≡ fits x y) → Asked (within_sizes sizes) (arcs_of_rows ks) a i k
-asked-of-arc a sizes ks i r k near far fits holds e on e' f = record {
+asked_of_arc a sizes ks i r k near far fits holds e on e' f = record {
   reason = r;
   on = on;
   far = e' ∙ sym holds.at_far;
@@ -60,7 +60,7 @@ module _ (m : Meaning) (lawful : Lawful m) (sizes ps : List ℕ) (ks : List Arc)
   Back k p = Holds sizes (m.right p) (m.left p) (λ y x. allowed m p x y) (get_or ks k off_arc)
 
   between : (p : ℕ) → named ps p ≡ true → Between m (length sizes) p
-  between = named-between m (length sizes) ps accepted
+  between = named_between m (length sizes) ps accepted
 
   -- an arc that is on is one way of a constraint that is named
   one_way : (k : ℕ) → (get_or ks k off_arc).on ≡ true → (p : ℕ) × (named ps p ≡ true) × (There k p ⊎ Back k p)
@@ -107,8 +107,8 @@ module _ (m : Meaning) (lawful : Lawful m) (sizes ps : List ℕ) (ks : List Arc)
       let u = and_parts (ltb p m.count) (eqb (m.left p) i || eqb (m.right p) i) t.1 in
       let kept = filled.kept p t.0 in
       ⊎_elim
-      (λ e. asked-by-arc (arcs_of m (named ps)) sizes ks i p (2 * p) (m.left p) (m.right p) (allowed m p) kept.there e (left_far i p e) (left_fits i p e))
-      (λ ne. asked-by-arc (arcs_of m (named ps)) sizes ks i p (2 * p + 1) (m.right p) (m.left p) (λ y x. allowed m p x y) kept.back
+      (λ e. asked_by_arc (arcs_of m (named ps)) sizes ks i p (2 * p) (m.left p) (m.right p) (allowed m p) kept.there e (left_far i p e) (left_fits i p e))
+      (λ ne. asked_by_arc (arcs_of m (named ps)) sizes ks i p (2 * p + 1) (m.right p) (m.left p) (λ y x. allowed m p x y) kept.back
       (eqb-true (m.right p) i (⊎_elim (λ l. absurd (ne (eqb-true (m.left p) i l))) (λ r. r) (or_cases (eqb (m.left p) i) (eqb (m.right p) i) u.1)))
       (right_far i p ne) (right_fits i p ne))
       (cases_eq (m.left p) i)
@@ -121,20 +121,20 @@ module _ (m : Meaning) (lawful : Lawful m) (sizes ps : List ℕ) (ks : List Arc)
       let w = one_way k t.0 in
       let p : ℕ = w.0 in
       let b = between p w.1 in
-      let named-on : (eqb (m.left p) i || eqb (m.right p) i) ≡ true → (arcs_of m (named ps)).on i p ≡ true =
+      let named_on : (eqb (m.left p) i || eqb (m.right p) i) ≡ true → (arcs_of m (named ps)).on i p ≡ true =
       λ e. and_from (named ps p) (ltb p m.count && (eqb (m.left p) i || eqb (m.right p) i)) w.1
       (and_from (ltb p m.count) (eqb (m.left p) i || eqb (m.right p) i) (lt-ltb p m.count b.is_one) e)
       in
       ⊎_elim
       (λ h.
       let e : m.left p ≡ i = sym h.at_near ∙ near in
-      asked-of-arc (arcs_of m (named ps)) sizes ks i p k (m.left p) (m.right p) (allowed m p) h e
-      (named-on (or_left (eqb (m.left p) i) (eqb (m.right p) i) (eq-eqb (m.left p) i e))) (left_far i p e) (left_fits i p e))
+      asked_of_arc (arcs_of m (named ps)) sizes ks i p k (m.left p) (m.right p) (allowed m p) h e
+      (named_on (or_left (eqb (m.left p) i) (eqb (m.right p) i) (eq-eqb (m.left p) i e))) (left_far i p e) (left_fits i p e))
       (λ h.
       let e : m.right p ≡ i = sym h.at_near ∙ near in
       let ne : m.left p ≡ i → ⊥ = λ q. lawful.apart p b.is_one (q ∙ sym e) in
-      asked-of-arc (arcs_of m (named ps)) sizes ks i p k (m.right p) (m.left p) (λ y x. allowed m p x y) h e
-      (named-on (or_right (eqb (m.left p) i) (eqb (m.right p) i) (eq-eqb (m.right p) i e))) (right_far i p ne) (right_fits i p ne))
+      asked_of_arc (arcs_of m (named ps)) sizes ks i p k (m.right p) (m.left p) (λ y x. allowed m p x y) h e
+      (named_on (or_right (eqb (m.left p) i) (eqb (m.right p) i) (eq-eqb (m.right p) i e))) (right_far i p ne) (right_fits i p ne))
       w.2
 
   -- so the largest family is the same

@@ -1,5 +1,5 @@
 -- Constraints of a catalog kept as arcs: constraint p, seen from its left end and from its right end, at the places 2 p and 2 p + 1.
-use Rattle.std.specs.Prelude.{◌≡◌, ℕ, ◌+◌, ◌*◌, ◌<◌, Bool, true, false, ◌||◌, List, get_or, ◌==◌, slice_index, slice_index_or}
+use Rattle.std.specs.Prelude.{◌≡◌, ℕ, ◌+◌, ◌*◌, ◌<◌, Bool, true, false, ◌||◌, List, ◌==◌, slice_index, slice_index_or}
 use Rattle.bits.specs.Bits.{has_bit}
 use Rattle.catalog.specs.Meaning.{Meaning, allowed}
 use Rattle.scratch.specs.declared.arc.Arc.{Arc}
@@ -26,8 +26,8 @@ pub record Kept (m : Meaning) (sizes : List ℕ) (ks : List Arc) (p : ℕ) : Typ
 
 -- nothing at the places of p
 pub record Free (ks : List Arc) (p : ℕ) : Type 0 where
-  pub there : (get_or ks (2 * p) off_arc).on ≡ false
-  pub back : (get_or ks (2 * p + 1) off_arc).on ≡ false
+  pub there : (slice_index_or ks (2 * p) off_arc).on ≡ false
+  pub back : (slice_index_or ks (2 * p + 1) off_arc).on ≡ false
 
 -- just the chosen constraints are kept
 pub record Filled (m : Meaning) (sizes : List ℕ) (chosen : ℕ → Bool) (ks : List Arc) : Type 0 where

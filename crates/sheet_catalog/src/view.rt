@@ -1,5 +1,5 @@
 // One constraint of a sheet, seen through the record that holds it.
-ghost use Rattle.std.specs.Prelude.{◌≡◌, ◌+◌, ◌*◌, ◌/◌, ◌<◌, ◌&&◌, ltb, length, pos, negsuc, ◌*ℤ◌, ◌≤ℤ◌, if◌then◌else◌, Some, None, nat_lt};
+ghost use Rattle.std.specs.Prelude.{◌≡◌, ◌+◌, ◌*◌, ◌/◌, ◌<◌, ◌&&◌, nat_lt, length, pos, negsuc, ◌*ℤ◌, ◌≤ℤ◌, if◌then◌else◌, Some, None};
 ghost use Rattle.std.proofs.Common.{to_z};
 ghost use Rattle.std.specs.Int.{w16, w32};
 ghost use Rattle.std.specs.Option.{option_map};
@@ -116,7 +116,7 @@ impl Formula {
 
 // row x of a table, if it has one
 fn row(rows: &[u8], x: usize) -> Option<u64>
-    ensures { result ≡ (if ltb x (length rows.now / 8) then Some (number8 rows.now (8 * x)) else None) }
+    ensures { result ≡ (if nat_lt x (length rows.now / 8) then Some (number8 rows.now (8 * x)) else None) }
 {
     if x >= rows.len() / 8 {
         return None;

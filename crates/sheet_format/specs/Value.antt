@@ -1,5 +1,5 @@
 -- What a sheet says: its variables, its constraints and its moves.
-use Rattle.std.specs.Prelude.{◌≡◌, ℕ, ◌^◌, ◌<◌, ◌≤◌, List, length, ℤ, pos, negsuc, ◌≤ℤ◌, FitsSigned, slice_index_or}
+use Rattle.std.specs.Prelude.{◌≡◌, ℕ, ◌^◌, ◌<◌, ◌≤◌, List, length, ℤ, pos, negsuc, ◌≤ℤ◌, FitsSigned, ◌≢◌, slice_index_or}
 use Rattle.std.specs.Int.{w32}
 use Rattle.std.specs.List.{AllByRecursion as All}
 use Rattle.sheet_format.specs.declared.found.Variable.{Variable}
@@ -45,7 +45,7 @@ HousesDiffer vs = (i j : ℕ) → i < length vs → j < length vs → house_at v
 pub record ValidEnds (n a b : ℕ) : Type 0 where
   pub a_low : a < n
   pub b_low : b < n
-  pub apart : a ≡ b → ⊥
+  pub apart : a ≢ b
 
 pub record ValidSum (n a b : ℕ) (m k lo hi : ℤ) : Type 0 where
   pub ends : ValidEnds n a b

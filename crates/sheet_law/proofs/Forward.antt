@@ -165,6 +165,6 @@ sheet_runs s v =
     (constraints_there s.constraints n 0 (8 + 8 * n) s.variables _ (last_tally s) v.some_variables refl v.variables_valid v.constraints_valid (let f = v.few_constraints in omega arith)
     (let none : 0 + length s.constraints ≡ length s.constraints = omega arith in
     subst (λ c. Runs (tally n s.variables c 0 p) p (map move_record s.moves ++ (end_record ∷ [])) (last_tally s)) (sym none)
-    (let zero-moves : 0 + length s.moves ≡ length s.moves = omega arith in
-    subst (λ m. Runs (tally n s.variables (length s.constraints) 0 p) p (map move_record s.moves ++ (end_record ∷ [])) (tally n s.variables (length s.constraints) m p)) zero-moves
+    (let zero_moves : 0 + length s.moves ≡ length s.moves = omega arith in
+    subst (λ m. Runs (tally n s.variables (length s.constraints) 0 p) p (map move_record s.moves ++ (end_record ∷ [])) (tally n s.variables (length s.constraints) m p)) zero_moves
     (moves_there s.moves n (length s.constraints) 0 p p s.variables v.some_variables refl v.moves_valid)))))

@@ -2,6 +2,7 @@
 use Rattle.std.proofs.Common.{◌≡◌, ℕ, ◌+◌, ◌*◌, ◌<◌, ◌≤◌, List, [], ◌∷◌, ◌++◌, map, length, get_or, take, drop, set, sym, refl, ap, ◌∙◌, subst, add-zero, arith, below_more}
 use Rattle.std.specs.List.{flat_map, AllByRecursion as All}
 use Rattle.std.proofs.lemmas.List.{append_assoc, take-append-drop, drop_more, drop-drop, drop_at, take_at, length-drop, get_or-drop, get_or-set_same, get_or-set_other}
+use Rattle.std.proofs.lemmas.List.Concat.{flat_map-append}
 use Rattle.sheet_format.specs.declared.found.Variable.{Variable}
 use Rattle.sheet_format.specs.declared.found.Summary.{Summary}
 use Rattle.sheet_format.specs.Numbers.{eight, number2}
@@ -24,10 +25,6 @@ after_constraints s = flat_map framed (map move_record s.moves ++ (end_record �
 abbrev pub from_constraint : Sheet → ℕ → List ℕ
 from_constraint s p = flat_map framed (map constraint_record (drop p s.constraints)) ++ after_constraints s
 
-pub joined-append : {X A : Type 0} (f : X → List A) (xs ys : List X) → flat_map f (xs ++ ys) ≡ flat_map f xs ++ flat_map f ys
-joined-append f [] ys = refl
-joined-append f (x ∷ xs) ys = ap (λ zs. f x ++ zs) (joined-append f xs ys) ∙ sym (append_assoc (f x) (flat_map f xs) (flat_map f ys))
-
 variables_long : (vs : List Variable) → length (flat_map framed (map variable_record vs)) ≡ 8 * length vs
 variables_long [] = refl
 variables_long (v ∷ vs) = let k = variables_long vs in omega arith
@@ -39,7 +36,7 @@ first_start s =
     let cs : List ℕ = flat_map framed (map constraint_record s.constraints) in
     let head : List ℕ = framed (heading_record (length s.variables)) in
     let whole : encode s ≡ (head ++ vs) ++ from_constraint s 0 =
-    ap (λ ys. head ++ ys) (joined-append framed (map variable_record s.variables) _ ∙ ap (λ ys. vs ++ ys) (joined-append framed (map constraint_record s.constraints) _))
+    ap (λ ys. head ++ ys) (flat_map-append framed (map variable_record s.variables) _ ∙ ap (λ ys. vs ++ ys) (flat_map-append framed (map constraint_record s.constraints) _))
     ∙ sym (append_assoc head vs (from_constraint s 0)) in
     let long : length (head ++ vs) ≡ 8 + 8 * length s.variables = (let k = variables_long s.variables in omega arith) in
     ap (drop (8 + 8 * length s.variables)) whole ∙ drop_at (head ++ vs) (from_constraint s 0) (8 + 8 * length s.variables) long

@@ -79,8 +79,8 @@ bytes_lawful bytes low = by (holds bytes low)
     by (no_sheet e) = subst (λ s. Lawful (meaning_of s)) (sym e) empty_lawful
 
 -- where there is a constraint, the sheet is valid
-pub with_constraint : (bytes : List ℕ) (p : ℕ) → ((k : ℕ) → get_or bytes k 0 < 256) → p < length (sheet_in bytes).constraints → Valid (sheet_in bytes)
-with_constraint bytes p low h = by (holds bytes low)
+pub valid_with_constraint : (bytes : List ℕ) (p : ℕ) → ((k : ℕ) → get_or bytes k 0 < 256) → p < length (sheet_in bytes).constraints → Valid (sheet_in bytes)
+valid_with_constraint bytes p low h = by (holds bytes low)
   where
     by : Holds bytes → Valid (sheet_in bytes)
     by (a_sheet v e) = v

@@ -2,6 +2,7 @@
 use Rattle.std.proofs.Common.{◌≡◌, ℕ, zero, suc, ◌+◌, ◌*◌, ◌<◌, ◌≤◌, eqb, ltb, List, [], ◌∷◌, ◌++◌, map, length, get_or, take, drop, Ok, Err, sym, refl, ap, ◌∙◌, subst, ⊎_elim, arith}
 use Rattle.std.specs.List.{flat_map}
 use Rattle.std.proofs.lemmas.List.{drop-drop, get_or-drop, length-drop, length-take-le, get_or-take, at_drop_more, at_drop_all}
+use Rattle.std.proofs.lemmas.List.Concat.{flat_map-append}
 use Rattle.std.proofs.ByRecursion.{All-get_or}
 use Rattle.std.proofs.lemmas.List.FromFn.{length-map-range_with_len, get_or-map-range_with_len, fill_by_all}
 use Rattle.std.proofs.lemmas.Bool.{cases_lt, lt-ltb, le-ltb, eq-eqb, ne_eqb, cond-true, cond-false}
@@ -19,7 +20,6 @@ use Rattle.sheet_law.proofs.NumberLaws.{two_back}
 use Rattle.sheet_meaning.specs.Meant.{empty_sheet, sheet_in}
 use Rattle.sheet_meaning.specs.Placed.{number_of, numbers_of, size_of_house, SizesOf}
 use Rattle.sheet_meaning.proofs.Sheets.{accepted_in, refused_in}
-use Rattle.sheet_meaning.proofs.Read.{joined-append}
 
 number2_at : (xs : List ℕ) (n k : ℕ) → number2 (drop n xs) k ≡ number2 xs (n + k)
 number2_at xs n k =
@@ -55,7 +55,7 @@ variable_there bytes z e l h =
     let houses : (get_or (decode bytes).variables e no_variable).house < length (decode bytes).variables = valid.house_low in
     let there : drop (8 + 8 * e) bytes ≡ framed (variable_record v) ++ a.0 =
     ap (drop (8 + 8 * e)) (sym l.same)
-    ∙ ap (λ ys. drop (8 + 8 * e) (framed (heading_record (length s.variables)) ++ ys)) (joined-append framed (map variable_record s.variables) _)
+    ∙ ap (λ ys. drop (8 + 8 * e) (framed (heading_record (length s.variables)) ++ ys)) (flat_map-append framed (map variable_record s.variables) _)
     ∙ sym (drop-drop (8 * e) 8 (framed (heading_record (length s.variables)) ++ (flat_map framed (map variable_record s.variables) ++ rest)))
     ∙ a.1 in
     let long = ap length there in

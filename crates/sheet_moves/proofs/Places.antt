@@ -2,6 +2,7 @@
 use Rattle.std.proofs.Common.{◌≡◌, ℕ, zero, suc, ◌+◌, ◌*◌, ◌<◌, cond, eqb, List, [], ◌∷◌, ◌++◌, map, length, get_or, sym, refl, ap, ◌∙◌, arith}
 use Rattle.std.specs.List.{flat_map, AllByRecursion as All}
 use Rattle.std.proofs.lemmas.List.{append_assoc, length-append, get_or-append-add}
+use Rattle.std.proofs.lemmas.List.Concat.{flat_map-append}
 use Rattle.sheet_format.specs.declared.found.Variable.{Variable}
 use Rattle.sheet_format.specs.declared.found.Summary.{Summary}
 use Rattle.sheet_format.specs.Numbers.{number2}
@@ -46,10 +47,6 @@ in_order (m ∷ ms) rest (suc i) l valid =
     ∙ past (framed (move_record m)) (flat_map framed (map move_record ms) ++ rest) (6 * i) (6 * suc i) (omega arith)
     ∙ in_order ms rest i (omega arith) valid.1
 
-joined-append : (xs ys : List Raw) → flat_map framed (xs ++ ys) ≡ flat_map framed xs ++ flat_map framed ys
-joined-append [] ys = refl
-joined-append (x ∷ xs) ys = ap (λ zs. framed x ++ zs) (joined-append xs ys) ∙ sym (append_assoc (framed x) (flat_map framed xs) (flat_map framed ys))
-
 variables_long : (vs : List Variable) → length (flat_map framed (map variable_record vs)) ≡ 8 * length vs
 variables_long [] = refl
 variables_long (v ∷ vs) = let k = variables_long vs in let l = length-append (framed (variable_record v)) (flat_map framed (map variable_record vs)) in omega arith
@@ -77,9 +74,9 @@ encode_cut s =
     let v : List ℕ = flat_map framed (map variable_record s.variables) in
     let c : List ℕ = flat_map framed (map constraint_record s.constraints) in
     let m : List ℕ = flat_map framed (map move_record s.moves) in
-    ap (λ xs. h ++ xs) (joined-append (map variable_record s.variables) _)
-    ∙ ap (λ xs. h ++ (v ++ xs)) (joined-append (map constraint_record s.constraints) _)
-    ∙ ap (λ xs. h ++ (v ++ (c ++ xs))) (joined-append (map move_record s.moves) (end_record ∷ []))
+    ap (λ xs. h ++ xs) (flat_map-append framed (map variable_record s.variables) _)
+    ∙ ap (λ xs. h ++ (v ++ xs)) (flat_map-append framed (map constraint_record s.constraints) _)
+    ∙ ap (λ xs. h ++ (v ++ (c ++ xs))) (flat_map-append framed (map move_record s.moves) (end_record ∷ []))
     ∙ ap (λ xs. h ++ xs) (sym (append_assoc v c (m ++ framed end_record)))
     ∙ sym (append_assoc h (v ++ c) (m ++ framed end_record))
 

@@ -133,7 +133,7 @@ fn times(heap: Global, book: &Book, told: &Told) -> Result<Vec<u64>, AllocError>
 // Have no two accounts the same time?
 pub fn times_differ(heap: Global, book: &Book, told: &Told) -> Result<bool, AllocError> {
     let mut times = times(heap, book, told)?;
-    times.sort()?;
+    times.sort_unstable();
     for pair in times.windows(2) {
         if pair[0] == pair[1] {
             return Ok(false);

@@ -1,4 +1,4 @@
-ghost use Rattle.std.specs.Prelude.{◌≡◌, ◌+◌, ◌-◌, ◌<◌, ◌≤◌, min, ltb, [], ◌∷◌, ◌++◌, length, if◌then◌else◌, MatchOption, nat_lt};
+ghost use Rattle.std.specs.Prelude.{◌≡◌, ◌+◌, ◌-◌, ◌<◌, ◌≤◌, min, nat_lt, [], ◌∷◌, ◌++◌, length, if◌then◌else◌, MatchOption};
 ghost use Rattle.queue.specs.Waiting.{Kept, Over, waits};
 
 use super::Queue;
@@ -6,7 +6,7 @@ use super::Queue;
 // Where the next entry goes: after the last one, from the start again past the limit.
 fn tail(limit: usize, head: usize, len: usize) -> usize
     requires { (head ≤ limit) × (len < limit) }
-    ensures { result ≡ (if ltb len (limit - head) then head + len else len - (limit - head)) }
+    ensures { result ≡ (if nat_lt len (limit - head) then head + len else len - (limit - head)) }
 {
     let to_end = limit - head;
     if len < to_end {
@@ -18,7 +18,7 @@ fn tail(limit: usize, head: usize, len: usize) -> usize
 
 // Where the first entry stands: at the head, or at the start where the head has come to the limit.
 fn start(limit: usize, head: usize) -> usize
-    ensures { result ≡ (if ltb head limit then head else 0) }
+    ensures { result ≡ (if nat_lt head limit then head else 0) }
 {
     if head < limit { head } else { 0 }
 }

@@ -1,6 +1,6 @@
 use Rattle.std.proofs.Common.{arith}
 use Rattle.scratch.proofs.Accepting.{indices_each}
-use Rattle.scratch.proofs.Keeping.{filled_none, Filled-more, filled_all}
+use Rattle.scratch.proofs.Keeping.{filled_none, filled_more, filled_all}
 use Rattle.scratch.proofs.fill.fill.Goals as goal
 
 pub loop-p-init : goal.loop-p-init
@@ -16,7 +16,7 @@ keep-requires g c =
 
 pub loop-p-preserved : goal.loop-p-preserved
 loop-p-preserved g c =
-    Filled-more (g.C.Catalog.meaning c.args.catalog.now) c.args.sizes.now c.keep.new.arcs c.args.indices.now
+    filled_more (g.C.Catalog.meaning c.args.catalog.now) c.args.sizes.now c.keep.new.arcs c.args.indices.now
     c.loop-p.p-index (omega arith) (c.keep.ensures _ c.loop-p.invariant)
 
 pub returns : goal.returns

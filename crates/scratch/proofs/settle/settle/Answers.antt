@@ -4,7 +4,7 @@ use Rattle.arcs.proofs.Shrink.{around_bound}
 use Rattle.bits.specs.Bits.{domains_of}
 use Rattle.scratch.specs.Rows.{arcs_of_rows}
 use Rattle.scratch.specs.Settling.{Waits}
-use Rattle.scratch.proofs.Sweeping.{Swept-all, waits_at_first, waits_at_last}
+use Rattle.scratch.proofs.Sweeping.{swept_all, waits_at_first, waits_at_last}
 use Rattle.scratch.proofs.settle.settle.Goals as goal
 
 pub loop-stale-init : goal.loop-stale-init
@@ -14,7 +14,7 @@ loop-stale-init c =
 pub loop-stale-preserved : goal.loop-stale-preserved
 loop-stale-preserved c = (
   c.pass-stale.ensures.around (domains_of c.args.domains.now) c.loop-stale.invariant.0,
-  Swept-all c.args.arcs.now c.loop-stale.stale c.loop-stale.domains c.pass-stale.new.domains c.pass-stale.result
+  swept_all c.args.arcs.now c.loop-stale.stale c.loop-stale.domains c.pass-stale.new.domains c.pass-stale.result
       c.pass-stale.ensures c.loop-stale.invariant.1,
 )
 
