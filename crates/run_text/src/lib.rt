@@ -1,8 +1,8 @@
 // The lines that a run prints.
 #![tactic(auto)]
 
-mod domains;
+mod domain_lines;
 mod lines;
 
-pub use domains::domain_line;
+pub use domain_lines::domain_line;
 pub use lines::move_line;

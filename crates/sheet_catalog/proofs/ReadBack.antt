@@ -1,6 +1,6 @@
 -- What is read where a constraint begins is that constraint.
 use Rattle.std.proofs.Common.{◌≡◌, ℕ, ◌<◌, Bool, true, false, cond, ltb, List, length, get_or, drop, Some, None, sym, refl, ap, ◌∙◌, subst, arith}
-use Rattle.std.specs.List.{AllByRecursion as All}
+use Rattle.std.specs.List.{AllByRecursion}
 use Rattle.std.proofs.lemmas.Bool.{le-ltb, lt-ltb, cond-false, cond-true}
 use Rattle.catalog.specs.Meaning.{ends_of}
 use Rattle.sheet_format.specs.declared.found.Variable.{Variable}
@@ -11,7 +11,7 @@ use Rattle.sheet_law.proofs.Framing.{Short, framed_read}
 use Rattle.sheet_law.proofs.Laws.{constraint_back}
 use Rattle.sheet_meaning.specs.Meant.{left_end, right_end, constraint_at, meaning_of, sheet_in}
 use Rattle.sheet_meaning.specs.Begun.{BeginsAt}
-use Rattle.sheet_meaning.proofs.Sheets.{with_constraint, constraint_valid}
+use Rattle.sheet_meaning.proofs.Sheets.{valid_with_constraint, constraint_valid}
 use Rattle.sheet_meaning.proofs.Read.{begun_rest, constraint_short}
 use Rattle.sheet_catalog.specs.Viewed.{meant_by, meant, constraint_shown, constraint_read}
 use Rattle.sheet_catalog.specs.declared.view.Constraint as view
@@ -19,7 +19,7 @@ use Rattle.sheet_catalog.specs.declared.view.Pairs.{Pairs}
 use Rattle.sheet_catalog.specs.declared.view.Pairs.TheVariants.{Sum, Table}
 
 -- the record of a constraint shows it
-shows : (vs : List Variable) (c : Constraint) (place : ℕ) (rest : List ℕ) → All (ValidVariable (length vs)) vs → ValidConstraint vs c
+shows : (vs : List Variable) (c : Constraint) (place : ℕ) (rest : List ℕ) → AllByRecursion (ValidVariable (length vs)) vs → ValidConstraint vs c
     → constraint_read (taken_if (shown (constraint_record c).kind (constraint_record c).body place) rest) ≡ Some c
 shows vs (sum a b m k lo hi) place rest valid v = constraint_back vs (sum a b m k lo hi) valid v
 shows vs (table a b rows) place rest valid v =
@@ -45,7 +45,7 @@ pub found_there : (bytes : List ℕ) (count p start : ℕ) → ((k : ℕ) → ge
     → constraint_read (reading (drop start bytes) start) ≡ cond (ltb p count) (Some (constraint_at (sheet_in bytes) p)) None
 found_there bytes count p start low e h b =
     let k : p < length (sheet_in bytes).constraints = subst (λ n. p < n) e h in
-    read_there (sheet_in bytes) p bytes start start (with_constraint bytes p low k) k b
+    read_there (sheet_in bytes) p bytes start start (valid_with_constraint bytes p low k) k b
     ∙ sym (cond-true (ltb p count) (Some (constraint_at (sheet_in bytes) p)) None (lt-ltb p count h))
 
 left_meant : (a b : ℕ) (pairs : Pairs) → left_end (meant_by a b pairs) ≡ a

@@ -2,7 +2,7 @@
 use Rattle.std.specs.Prelude.{ℕ, ◌+◌, ◌≤◌, List, [], ◌∷◌, ◌++◌, map, length}
 use Rattle.std.proofs.Common.{of_z}
 use Rattle.std.specs.Int.{w16, w32}
-use Rattle.std.specs.List.{flat_map, AllByRecursion as All}
+use Rattle.std.specs.List.{flat_map, AllByRecursion}
 use Rattle.sheet_format.specs.declared.found.Variable.{Variable}
 use Rattle.sheet_format.specs.Numbers.{two, four, eight}
 use Rattle.sheet_format.specs.Value.{Constraint, sum, table, Move, add, retract, Sheet, ValidVariable, HousesDiffer, ValidConstraint, ValidMove}
@@ -49,9 +49,9 @@ encode s = flat_map framed (records_of s)
 pub record Valid (s : Sheet) : Type 0 where
   pub some_variables : 1 ≤ length s.variables
   pub few_variables : length s.variables ≤ 32
-  pub variables_valid : All (ValidVariable (length s.variables)) s.variables
+  pub variables_valid : AllByRecursion (ValidVariable (length s.variables)) s.variables
   pub houses_differ : HousesDiffer s.variables
   pub few_constraints : length s.constraints ≤ 96
-  pub constraints_valid : All (ValidConstraint s.variables) s.constraints
-  pub moves_valid : All ValidMove s.moves
+  pub constraints_valid : AllByRecursion (ValidConstraint s.variables) s.constraints
+  pub moves_valid : AllByRecursion ValidMove s.moves
   pub short : length (encode s) ≤ 65535

@@ -1,7 +1,7 @@
 -- What a sheet says: its variables, its constraints and its moves.
 use Rattle.std.specs.Prelude.{◌≡◌, ℕ, ◌^◌, ◌<◌, ◌≤◌, List, length, ℤ, pos, negsuc, ◌≤ℤ◌, FitsSigned, ◌≢◌, slice_index_or}
 use Rattle.std.specs.Int.{w32}
-use Rattle.std.specs.List.{AllByRecursion as All}
+use Rattle.std.specs.List.{AllByRecursion}
 use Rattle.sheet_format.specs.declared.found.Variable.{Variable}
 
 -- A constraint between the variables a and b.
@@ -61,7 +61,7 @@ pub record ValidSum (n a b : ℕ) (m k lo hi : ℤ) : Type 0 where
 pub record ValidTable (vs : List Variable) (a b : ℕ) (rows : List ℕ) : Type 0 where
   pub ends : ValidEnds (length vs) a b
   pub a_row_each : length rows ≡ size_at vs a
-  pub low_bits : All (λ row. row < 2 ^ size_at vs b) rows
+  pub low_bits : AllByRecursion (λ row. row < 2 ^ size_at vs b) rows
 
 abbrev pub ValidConstraint : List Variable → Constraint → Type 0
 ValidConstraint vs (sum a b m k lo hi) = ValidSum (length vs) a b m k lo hi

@@ -1,6 +1,6 @@
 -- Records that run to the end are those of a valid sheet.
 use Rattle.std.proofs.Common.{◌≡◌, ℕ, ◌+◌, ◌*◌, ◌<◌, ◌≤◌, true, eqb, List, [], ◌∷◌, ◌++◌, map, length, get_or, sym, refl, ap, ◌∙◌, subst, ⊎_elim, arith}
-use Rattle.std.specs.List.{flat_map, AllByRecursion as All}
+use Rattle.std.specs.List.{flat_map, AllByRecursion}
 use Rattle.std.proofs.lemmas.List.{nil_from_length}
 use Rattle.std.proofs.lemmas.Bool.{ltb-true, eqb-true, and_parts}
 use Rattle.sheet_format.specs.declared.found.Variable.{Variable}
@@ -18,7 +18,7 @@ use Rattle.sheet_law.proofs.Rows.{RowsBack, rows_back}
 use Rattle.sheet_law.proofs.Items.{same_raw, ends_valid, one_number, sum_again, sum_valid}
 
 abbrev pub AllBytes : List Raw → Type 0
-AllBytes rs = All (λ r. Bytes r.body) rs
+AllBytes rs = AllByRecursion (λ r. Bytes r.body) rs
 
 abbrev pub tally : ℕ → List Variable → ℕ → ℕ → ℕ → Tally
 tally n vs constraints moves reached = record { n = n; variables = vs; constraints = constraints; moves = moves; reached = reached }
@@ -33,8 +33,8 @@ pub record Tail (g : Tally) (place : ℕ) (rs : List Raw) (k : Tally) : Type 0 w
   pub moves : List Move
   pub same : rs ≡ map constraint_record constraints ++ (map move_record moves ++ (end_record ∷ []))
   pub late : (g.moves ≡ 0 → ⊥) → (constraints ≡ []) × (k.reached ≡ g.reached)
-  pub constraints_valid : All (ValidConstraint g.variables) constraints
-  pub moves_valid : All ValidMove moves
+  pub constraints_valid : AllByRecursion (ValidConstraint g.variables) constraints
+  pub moves_valid : AllByRecursion ValidMove moves
   pub few : g.constraints + length constraints ≤ 96
   pub n_is : k.n ≡ g.n
   pub variables_are : k.variables ≡ g.variables
@@ -105,7 +105,7 @@ module _ (g k : Tally) (place : ℕ) (r : Raw) (rs : List Raw) where
         moves = t.moves;
         same = ap (λ q. q ∷ rs) e ∙ ap (λ qs. constraint_record c ∷ qs) t.same;
         late = λ z. absurd (z early);
-        constraints_valid = (valid, subst (λ vs. All (ValidConstraint vs) t.constraints) hv t.constraints_valid);
+        constraints_valid = (valid, subst (λ vs. AllByRecursion (ValidConstraint vs) t.constraints) hv t.constraints_valid);
         moves_valid = t.moves_valid;
         few = (let f = t.few in omega arith);
         n_is = t.n_is ∙ hn;

@@ -1,6 +1,6 @@
 -- The records of a valid sheet run to the end.
 use Rattle.std.proofs.Common.{◌≡◌, ℕ, ◌+◌, ◌*◌, ◌<◌, ◌≤◌, Bool, true, false, not, eqb, ltb, List, [], ◌∷◌, ◌++◌, map, length, ℤ, Some, sym, refl, ap, ◌∙◌, subst, inl, inr, arith}
-use Rattle.std.specs.List.{flat_map, AllByRecursion as All}
+use Rattle.std.specs.List.{flat_map, AllByRecursion}
 use Rattle.std.proofs.lemmas.List.{append_assoc, append-nil, length-append}
 use Rattle.std.proofs.ByRecursion.{All-get_or}
 use Rattle.std.proofs.lemmas.Bool.{lt-ltb, le-ltb, eq-eqb, and_from, not_from_false, cond-false}
@@ -34,7 +34,7 @@ complete_is n c m p vs some all =
     and_from (ltb 0 n) (not (ltb (length vs) n)) (lt-ltb 0 n some) (not_from_false (ltb (length vs) n) (le-ltb (length vs) n (omega arith)))
 
 -- moves, then the end
-pub moves_there : (ms : List Move) (n c m p place : ℕ) (vs : List Variable) → 1 ≤ n → length vs ≡ n → All ValidMove ms
+pub moves_there : (ms : List Move) (n c m p place : ℕ) (vs : List Variable) → 1 ≤ n → length vs ≡ n → AllByRecursion ValidMove ms
     → Runs (tally n vs c m p) place (map move_record ms ++ (end_record ∷ [])) (tally n vs c (m + length ms) p)
 moves_there [] n c m p place vs some all valid =
     let same : m + 0 ≡ m = omega arith in (
@@ -71,10 +71,10 @@ sum_goes n c place after a b vs m k lo hi some all few v =
     (pass (ends_good n a b) _ _ _ (subst (λ x. ends_good x a b ≡ true) all (valid_ends (length vs) a b v.ends))
     (pass (sum_body_good (constraint_record (sum a b m k lo hi)).body) _ _ _ (sum_there (length vs) a b m k lo hi v).1 refl)))
 
-pub size_low : (n : ℕ) (vs : List Variable) (i : ℕ) → All (ValidVariable n) vs → i < length vs → size_at vs i ≤ 64
+pub size_low : (n : ℕ) (vs : List Variable) (i : ℕ) → AllByRecursion (ValidVariable n) vs → i < length vs → size_at vs i ≤ 64
 size_low n vs i valid l = (All-get_or (ValidVariable n) vs i no_variable l valid).few_values
 
-table_goes : (n c place after a b : ℕ) (vs : List Variable) (rows : List ℕ) → 1 ≤ n → length vs ≡ n → c < 96 → All (ValidVariable n) vs → ValidTable vs a b rows → (at : ℕ)
+table_goes : (n c place after a b : ℕ) (vs : List Variable) (rows : List ℕ) → 1 ≤ n → length vs ≡ n → c < 96 → AllByRecursion (ValidVariable n) vs → ValidTable vs a b rows → (at : ℕ)
     → step (tally n vs c 0 place) (shows_table a b (flat_map eight rows) at) after ≡ goes (tally n vs (c + 1) 0 after)
 table_goes n c place after a b vs rows some all few valid v at =
     let there = rows_there (size_at vs b) rows [] (size_low n vs b valid v.ends.b_low) v.low_bits in
@@ -88,7 +88,7 @@ table_goes n c place after a b vs rows some all few valid v at =
 table_shown : (a b place : ℕ) (rows : List ℕ) → shown 4 (a ∷ (b ∷ flat_map eight rows)) place ≡ Some (shows_table a b (flat_map eight rows) (place + 6))
 table_shown a b place rows = ap Some (cond-false (ltb (length (a ∷ (b ∷ flat_map eight rows))) 2) _ _ (le-ltb _ 2 (omega arith)))
 
-pub constraints_there : (cs : List Constraint) (n c place : ℕ) (vs : List Variable) (rest : List Raw) (k : Tally) → 1 ≤ n → length vs ≡ n → All (ValidVariable n) vs → All (ValidConstraint vs) cs → c + length cs ≤ 96
+pub constraints_there : (cs : List Constraint) (n c place : ℕ) (vs : List Variable) (rest : List Raw) (k : Tally) → 1 ≤ n → length vs ≡ n → AllByRecursion (ValidVariable n) vs → AllByRecursion (ValidConstraint vs) cs → c + length cs ≤ 96
     → Runs (tally n vs (c + length cs) 0 (place + length (flat_map framed (map constraint_record cs)))) (place + length (flat_map framed (map constraint_record cs))) rest k
     → Runs (tally n vs c 0 place) place (map constraint_record cs ++ rest) k
 constraints_there [] n c place vs rest k some all valid good few run =
@@ -129,7 +129,7 @@ variable_goes n place after us v small due valid new =
     (subst (λ x. house_good (tally n us 0 0 place) x ≡ true) (sym house) (and_from _ _ (lt-ltb _ _ low) (not_from_false _ new)))
     (ap (λ x. goes (tally n (us ++ (x ∷ [])) 0 0 after)) same)))
 
-pub variables_there : (vs : List Variable) (n place : ℕ) (us : List Variable) (rest : List Raw) (k : Tally) → n ≤ 32 → length us + length vs ≤ n → All (ValidVariable n) vs → HousesDiffer (us ++ vs)
+pub variables_there : (vs : List Variable) (n place : ℕ) (us : List Variable) (rest : List Raw) (k : Tally) → n ≤ 32 → length us + length vs ≤ n → AllByRecursion (ValidVariable n) vs → HousesDiffer (us ++ vs)
     → Runs (tally n (us ++ vs) 0 0 (place + 8 * length vs)) (place + 8 * length vs) rest k
     → Runs (tally n us 0 0 place) place (map variable_record vs ++ rest) k
 variables_there [] n place us rest k small room valid differ run =

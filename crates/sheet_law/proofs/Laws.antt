@@ -1,7 +1,7 @@
 -- The law of sheets.
 use Rattle.std.proofs.Common.{◌≡◌, ℕ, zero, suc, ◌+◌, ◌-◌, ◌*◌, ◌/◌, ◌<◌, ◌≤◌, Bool, true, false, cond, ltb, List, [], ◌∷◌, ◌++◌, map, length, take, drop, Some, None, Ok, Err, Option, sym, refl, ap, ◌∙◌, subst, zero-add, arith}
 use Rattle.std.specs.Option.{option_to_list}
-use Rattle.std.specs.List.{flat_map, AllByRecursion as All}
+use Rattle.std.specs.List.{flat_map, AllByRecursion}
 use Rattle.std.proofs.lemmas.List.{append_assoc, append-nil}
 use Rattle.std.proofs.lemmas.Nat.{div-mul-add}
 use Rattle.std.proofs.ByRecursion.{All-append, All-map, All-weaker}
@@ -26,7 +26,7 @@ use Rattle.sheet_law.proofs.Variables.{Front, front_back, Headed, headed_back}
 use Rattle.sheet_law.proofs.Forward.{size_low, last_tally, sheet_runs}
 
 -- framed records, split again
-pub split_back : (rs : List Raw) (most : ℕ) → length rs ≤ most → All Short rs → split most (flat_map framed rs) ≡ rs
+pub split_back : (rs : List Raw) (most : ℕ) → length rs ≤ most → AllByRecursion Short rs → split most (flat_map framed rs) ≡ rs
 unfolding split
 split_back [] zero l short = refl
 split_back [] (suc most) l short = refl
@@ -49,7 +49,7 @@ records_few [] = omega arith
 records_few (r ∷ rs) = let l = framed-length r (flat_map framed rs) in let k = records_few rs in omega arith
 
 -- records of known kinds, in bytes few enough, are short
-short_all : (rs : List Raw) → All (λ r. r.kind < 65536) rs → length (flat_map framed rs) ≤ 65535 → All Short rs
+short_all : (rs : List Raw) → AllByRecursion (λ r. r.kind < 65536) rs → length (flat_map framed rs) ≤ 65535 → AllByRecursion Short rs
 short_all [] kinds l = tt
 short_all (r ∷ rs) kinds l =
     let k = framed-length r (flat_map framed rs) in
@@ -63,11 +63,11 @@ move_kind : (m : Move) → (move_record m).kind < 65536
 move_kind (add p) = omega arith
 move_kind (retract p) = omega arith
 
-each : {X : Type 0} (P : X → Type 0) → ((x : X) → P x) → (xs : List X) → All P xs
+each : {X : Type 0} (P : X → Type 0) → ((x : X) → P x) → (xs : List X) → AllByRecursion P xs
 each P f [] = tt
 each P f (x ∷ xs) = (f x, each P f xs)
 
-kinds_low : (s : Sheet) → All (λ r. r.kind < 65536) (records_of s)
+kinds_low : (s : Sheet) → AllByRecursion (λ r. r.kind < 65536) (records_of s)
 kinds_low s = (
   omega arith,
   All-append (λ r. r.kind < 65536) (map variable_record s.variables) _ (All-map (λ r. r.kind < 65536) variable_record s.variables (each _ (λ v. omega arith) s.variables))
@@ -76,7 +76,7 @@ kinds_low s = (
       (omega arith, tt))),
 )
 
-pub sheet_short : (s : Sheet) → Valid s → All Short (records_of s)
+pub sheet_short : (s : Sheet) → Valid s → AllByRecursion Short (records_of s)
 sheet_short s v = short_all (records_of s) (kinds_low s) v.short
 
 -- those of one sort out of records
@@ -84,7 +84,7 @@ gathered-append : {X : Type 0} (f : Raw → Option X) (xs ys : List Raw) → gat
 gathered-append f [] ys = refl
 gathered-append f (r ∷ rs) ys = ap (λ zs. option_to_list (f r) ++ zs) (gathered-append f rs ys) ∙ sym (append_assoc (option_to_list (f r)) (gathered f rs) (gathered f ys))
 
-gathered_all : {X : Type 0} (f : Raw → Option X) (g : X → Raw) (xs : List X) → All (λ x. f (g x) ≡ Some x) xs → gathered f (map g xs) ≡ xs
+gathered_all : {X : Type 0} (f : Raw → Option X) (g : X → Raw) (xs : List X) → AllByRecursion (λ x. f (g x) ≡ Some x) xs → gathered f (map g xs) ≡ xs
 gathered_all f g [] h = refl
 gathered_all f g (x ∷ xs) h = ap (λ o. option_to_list o ++ gathered f (map g xs)) h.0 ∙ ap (λ zs. x ∷ zs) (gathered_all f g xs h.1)
 
@@ -100,7 +100,7 @@ variable_back n v small valid =
     let house : number2 (variable_record v).body 2 ≡ v.house = two_back v.house [] (omega arith) in
     ap (λ x. Some (record { size = x; house = number2 (variable_record v).body 2 })) size ∙ ap (λ x. Some (record { size = v.size; house = x })) house
 
-pub constraint_back : (vs : List Variable) (c : Constraint) → All (ValidVariable (length vs)) vs → ValidConstraint vs c → as_constraint (constraint_record c) ≡ Some c
+pub constraint_back : (vs : List Variable) (c : Constraint) → AllByRecursion (ValidVariable (length vs)) vs → ValidConstraint vs c → as_constraint (constraint_record c) ≡ Some c
 constraint_back vs (sum a b m k lo hi) valid v = ap Some (sum_there (length vs) a b m k lo hi v).0
 constraint_back vs (table a b rows) valid v =
     let there = rows_there (size_at vs b) rows [] (size_low (length vs) vs b valid v.ends.b_low) v.low_bits in
@@ -200,7 +200,7 @@ sheeted rs k b run =
           record {
             some_variables = subst (λ m. 1 ≤ m) (sym many) some;
             few_variables = subst (λ m. m ≤ 32) (sym many) few;
-            variables_valid = subst (λ m. All (ValidVariable m) vs) (sym many) f.valid;
+            variables_valid = subst (λ m. AllByRecursion (ValidVariable m) vs) (sym many) f.valid;
             houses_differ = f.differ;
             few_constraints = (let c = t.few in omega arith);
             constraints_valid = t.constraints_valid;

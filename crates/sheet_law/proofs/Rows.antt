@@ -1,6 +1,6 @@
 -- The rows of a table, written and read back.
 use Rattle.std.proofs.Common.{◌≡◌, ℕ, zero, suc, ◌+◌, ◌*◌, ◌^◌, ◌<◌, ◌≤◌, true, ltb, List, [], ◌∷◌, ◌++◌, length, sym, refl, ap, ◌∙◌, subst, le_trans, arith, pow_mono}
-use Rattle.std.specs.List.{flat_map, AllByRecursion as All}
+use Rattle.std.specs.List.{flat_map, AllByRecursion}
 use Rattle.std.proofs.lemmas.List.{nil_from_length}
 use Rattle.std.proofs.lemmas.Bool.{ltb-true, lt-ltb, and_parts, and_from}
 use Rattle.sheet_format.specs.Numbers.{four, eight, number8}
@@ -30,7 +30,7 @@ eight_again a b c d e f g h rest y =
 pub record RowsBack (count size : ℕ) (xs : List ℕ) : Type 0 where
   pub many : length (rows_in count xs) ≡ count
   pub same : xs ≡ flat_map eight (rows_in count xs)
-  pub low : All (λ row. row < 2 ^ size) (rows_in count xs)
+  pub low : AllByRecursion (λ row. row < 2 ^ size) (rows_in count xs)
 
 pub rows_back : (count size : ℕ) (xs : List ℕ) → Bytes xs → length xs ≡ 8 * count → rows_good count size xs ≡ true → RowsBack count size xs
 unfolding rows_good rows_in
@@ -56,7 +56,7 @@ rows_back (suc count) size (x0 ∷ (x1 ∷ (x2 ∷ (x3 ∷ (x4 ∷ (x5 ∷ (x6 �
     }
 
 -- what is written of rows is good, and reads back as the rows
-pub rows_there : (size : ℕ) (rows rest : List ℕ) → size ≤ 64 → All (λ row. row < 2 ^ size) rows
+pub rows_there : (size : ℕ) (rows rest : List ℕ) → size ≤ 64 → AllByRecursion (λ row. row < 2 ^ size) rows
     → (rows_good (length rows) size (flat_map eight rows ++ rest) ≡ true)
     × (rows_in (length rows) (flat_map eight rows ++ rest) ≡ rows)
     × (length (flat_map eight rows) ≡ 8 * length rows)

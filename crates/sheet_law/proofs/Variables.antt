@@ -1,6 +1,6 @@
 -- The heading and the variables, read back from records.
 use Rattle.std.proofs.Common.{◌≡◌, ℕ, zero, suc, ◌+◌, ◌*◌, ◌<◌, ◌≤◌, Bool, true, false, not, eqb, ltb, List, [], ◌∷◌, ◌++◌, map, length, sym, refl, ap, ◌∙◌, subst, ⊎_elim, arith}
-use Rattle.std.specs.List.{AllByRecursion as All}
+use Rattle.std.specs.List.{AllByRecursion}
 use Rattle.std.proofs.lemmas.List.{append_assoc, append-nil, length-append}
 use Rattle.std.proofs.ByRecursion.{All-push}
 use Rattle.std.proofs.lemmas.Bool.{ltb-true, eqb-true, and_parts, not-true, lt-ltb, both_ways}
@@ -50,7 +50,7 @@ pub record Front (n m : ℕ) (us : List Variable) (place : ℕ) (rs : List Raw) 
   pub rest : List Raw
   pub same : rs ≡ map variable_record variables ++ rest
   pub many : length variables ≡ m
-  pub valid : All (ValidVariable n) (us ++ variables)
+  pub valid : AllByRecursion (ValidVariable n) (us ++ variables)
   pub differ : HousesDiffer (us ++ variables)
   pub runs : Runs (tally n (us ++ variables) 0 0 (place + 8 * m)) (place + 8 * m) rest k
   pub bytes : AllBytes rest
@@ -58,8 +58,8 @@ pub record Front (n m : ℕ) (us : List Variable) (place : ℕ) (rs : List Raw) 
 module _ (n : ℕ) (us : List Variable) (place : ℕ) (r : Raw) (rs : List Raw) (k : Tally) where
   -- one variable before the others
   front_more : (m : ℕ) (body : List ℕ) (h : Tally) → Bytes r.body → KindIs r.kind r.body (shows_variable body) → VariableHeld (tally n us 0 0 place) body (past place r) h
-      → All (ValidVariable n) us → HousesDiffer us
-      → (All (ValidVariable n) (us ++ (variable_of body ∷ [])) → HousesDiffer (us ++ (variable_of body ∷ [])) → Runs (tally n (us ++ (variable_of body ∷ [])) 0 0 (place + 8)) (place + 8) rs k → Front n m (us ++ (variable_of body ∷ [])) (place + 8) rs k)
+      → AllByRecursion (ValidVariable n) us → HousesDiffer us
+      → (AllByRecursion (ValidVariable n) (us ++ (variable_of body ∷ [])) → HousesDiffer (us ++ (variable_of body ∷ [])) → Runs (tally n (us ++ (variable_of body ∷ [])) 0 0 (place + 8)) (place + 8) rs k → Front n m (us ++ (variable_of body ∷ [])) (place + 8) rs k)
       → Runs h (past place r) rs k → Front n (suc m) us place (r ∷ rs) k
   front_more m body h b kind q valid differ go run =
       let v : Variable = variable_of body in
@@ -82,21 +82,21 @@ module _ (n : ℕ) (us : List Variable) (place : ℕ) (r : Raw) (rs : List Raw) 
             ap (λ x. x ∷ rs) (same_raw r 2 (two v.size ++ two v.house) kind.0 (here ∙ two_numbers body (subst Bytes here b) four))
             ∙ ap (λ xs. variable_record v ∷ xs) f.same;
         many = ap suc f.many;
-        valid = subst (All (ValidVariable n)) regroup f.valid;
+        valid = subst (AllByRecursion (ValidVariable n)) regroup f.valid;
         differ = subst HousesDiffer regroup f.differ;
         runs = subst (λ p. Runs (tally n (us ++ (v ∷ f.variables)) 0 0 p) p f.rest k) far (subst (λ ws. Runs (tally n ws 0 0 (place + 8 + 8 * m)) (place + 8 + 8 * m) f.rest k) regroup f.runs);
         bytes = f.bytes;
       }
 
 pub front_back : (m n : ℕ) (us : List Variable) (place : ℕ) (rs : List Raw) (k : Tally) → length us + m ≡ n → Runs (tally n us 0 0 place) place rs k → AllBytes rs
-    → All (ValidVariable n) us → HousesDiffer us → Front n m us place rs k
+    → AllByRecursion (ValidVariable n) us → HousesDiffer us → Front n m us place rs k
 front_back zero n us place rs k l run b valid differ =
     record {
       variables = [];
       rest = rs;
       same = refl;
       many = refl;
-      valid = subst (All (ValidVariable n)) (sym (append-nil us)) valid;
+      valid = subst (AllByRecursion (ValidVariable n)) (sym (append-nil us)) valid;
       differ = subst HousesDiffer (sym (append-nil us)) differ;
       runs =
           let far : place ≡ place + 8 * 0 = omega arith in

@@ -1,6 +1,6 @@
 -- The walk over bytes as a walk over whole records.
 use Rattle.std.proofs.Common.{◌≡◌, ℕ, zero, suc, ◌+◌, ◌-◌, ◌<◌, Bool, true, false, cond, eqb, ◌⊎◌, List, [], ◌∷◌, ◌++◌, length, Some, Ok, sym, refl, ap, ◌∙◌, subst, inl, inr, ⊎_elim, arith}
-use Rattle.std.specs.List.{flat_map, AllByRecursion as All}
+use Rattle.std.specs.List.{flat_map, AllByRecursion}
 use Rattle.std.proofs.lemmas.List.{nil_from_length}
 use Rattle.std.proofs.ByRecursion.{All-drop}
 use Rattle.std.proofs.lemmas.Bool.{eqb-true}
@@ -53,7 +53,7 @@ ended_here g k place n most r s rs d =
     ∙ ap (λ t. Ok (summary t)) (sym d.same)
 
 -- records that run to the end are accepted
-pub accepted : (rs : List Raw) (g k : Tally) (place n extra : ℕ) → Runs g place rs k → All Short rs
+pub accepted : (rs : List Raw) (g k : Tally) (place n extra : ℕ) → Runs g place rs k → AllByRecursion Short rs
     → walked (length rs + extra) (flat_map framed rs) place n g ≡ Ok (summary k)
 accepted [] g k place n extra run short = absurd run
 accepted (r ∷ rs) g k place n extra run short =
@@ -73,8 +73,8 @@ pub record Accepted (xs : List ℕ) (g : Tally) (place : ℕ) (z : Summary) : Ty
   pub end : Tally
   pub same : xs ≡ flat_map framed records
   pub runs : Runs g place records end
-  pub short : All Short records
-  pub bytes : All (λ r. Bytes r.body) records
+  pub short : AllByRecursion Short records
+  pub bytes : AllByRecursion (λ r. Bytes r.body) records
   pub sums_up : z ≡ summary end
 
 no_fault : (z : Summary) (cause : Cause) (byte n : ℕ) → format_fault cause byte n ≡ Ok z → ⊥

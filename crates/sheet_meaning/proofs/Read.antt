@@ -1,6 +1,6 @@
 -- What is read where a constraint begins.
 use Rattle.std.proofs.Common.{◌≡◌, ℕ, ◌+◌, ◌*◌, ◌<◌, ◌≤◌, List, [], ◌∷◌, ◌++◌, map, length, get_or, take, drop, set, sym, refl, ap, ◌∙◌, subst, add-zero, arith, below_more}
-use Rattle.std.specs.List.{flat_map, AllByRecursion as All}
+use Rattle.std.specs.List.{flat_map, AllByRecursion}
 use Rattle.std.proofs.lemmas.List.{append_assoc, take-append-drop, drop_more, drop-drop, drop_at, take_at, length-drop, get_or-drop, get_or-set_same, get_or-set_other}
 use Rattle.std.proofs.lemmas.List.Concat.{flat_map-append}
 use Rattle.sheet_format.specs.declared.found.Variable.{Variable}
@@ -63,7 +63,7 @@ begun_low bytes start r e =
     omega arith
 
 -- the records of constraints are short
-pub constraint_short : (vs : List Variable) (c : Constraint) → All (ValidVariable (length vs)) vs → ValidConstraint vs c → Short (constraint_record c)
+pub constraint_short : (vs : List Variable) (c : Constraint) → AllByRecursion (ValidVariable (length vs)) vs → ValidConstraint vs c → Short (constraint_record c)
 constraint_short vs (sum a b m k lo hi) valid v = record { kind_low = omega arith; length_low = omega arith }
 constraint_short vs (table a b rows) valid v =
     let low : size_at vs b ≤ 64 = size_low (length vs) vs b valid v.ends.b_low in

@@ -1,6 +1,6 @@
 -- Where the moves of a sheet stand in its bytes.
 use Rattle.std.proofs.Common.{◌≡◌, ℕ, zero, suc, ◌+◌, ◌*◌, ◌<◌, cond, eqb, List, [], ◌∷◌, ◌++◌, map, length, get_or, sym, refl, ap, ◌∙◌, arith}
-use Rattle.std.specs.List.{flat_map, AllByRecursion as All}
+use Rattle.std.specs.List.{flat_map, AllByRecursion}
 use Rattle.std.proofs.lemmas.List.{append_assoc, length-append, get_or-append-add}
 use Rattle.std.proofs.lemmas.List.Concat.{flat_map-append}
 use Rattle.sheet_format.specs.declared.found.Variable.{Variable}
@@ -37,7 +37,7 @@ six (add p) = refl
 six (retract p) = refl
 
 -- the moves one after the other
-in_order : (ms : List Move) (rest : List ℕ) (i : ℕ) → i < length ms → All ValidMove ms → move_at (flat_map framed (map move_record ms) ++ rest) (6 * i) ≡ get_or ms i no_move
+in_order : (ms : List Move) (rest : List ℕ) (i : ℕ) → i < length ms → AllByRecursion ValidMove ms → move_at (flat_map framed (map move_record ms) ++ rest) (6 * i) ≡ get_or ms i no_move
 in_order [] rest i l valid = absurd (omega arith)
 in_order (m ∷ ms) rest zero l valid =
     ap (λ xs. move_at xs 0) (append_assoc (framed (move_record m)) (flat_map framed (map move_record ms)) rest) ∙ first m (flat_map framed (map move_record ms) ++ rest) valid.0

@@ -1,7 +1,7 @@
 use Rattle.std.proofs.Common.{string_bytes, ◌∙◌}
 use Rattle.run_text.specs.Lines.{head_text}
 use Rattle.run_text.proofs.Values.{none_yet, value_more}
-use Rattle.run_text.proofs.domains.domain_line.Goals as goal
+use Rattle.run_text.proofs.domain_lines.domain_line.Goals as goal
 
 pub loop-x-init : goal.loop-x-init
 loop-x-init c = c.in_ok-line.ensures ∙ none_yet c.args.variable c.args.domain
