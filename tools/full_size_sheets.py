@@ -1,5 +1,5 @@
 #!/usr/bin/env python3
-"""Writes full-size sheets for measuring `fit`: 32 variables of 64 values, and as many moves as a sheet has room for.
+"""Writes full-size sheets for measuring `fit`: 32 variables of 64 values, and nearly as many moves as a sheet has room for.
 
 usage: python3 tools/full_size_sheets.py FOLDER      writes apart.sheet, orders.sheet and tables.sheet there
 
@@ -50,6 +50,8 @@ def sheet(constraint, count, moves):
     return out + record(7, b'')
 
 
+if len(sys.argv) != 2 or not os.path.isdir(sys.argv[1]):
+    sys.exit(__doc__)
 for name, constraint, count, moves in (('apart', apart, 96, 10400), ('orders', order, 96, 10400), ('tables', table, 60, 5500)):
     with open(os.path.join(sys.argv[1], name + '.sheet'), 'wb') as f:
         f.write(sheet(constraint, count, moves))
