@@ -9,25 +9,25 @@ pub mod checks;
 #[derive(Clone, Copy, PartialEq, Eq, Debug)]
 pub enum Refusal {
     // no variable, or more than 32
-    VariableCount,
+    VariableCount = 1,
     // a variable with no value, or with more than 64
-    DomainSize,
+    DomainSize = 2,
     // an index that is not below the catalog's count
-    NoSuchConstraint,
+    NoSuchConstraint = 3,
     // an end that is not one of the variables
-    EndOutside,
+    EndOutside = 4,
     // to be added, and already in
-    AlreadyIn,
+    AlreadyIn = 5,
     // to be retracted, and not in
-    NotIn,
+    NotIn = 6,
     // a lent buffer that is too short
-    ShortBuffer,
+    ShortBuffer = 7,
     // a clock that is too far on
-    ClockSpent,
+    ClockSpent = 8,
     // a question about a variable or a value that is not there
-    NoSuchValue,
+    NoSuchValue = 9,
     // a result list with fewer entries than there are variables
-    ShortResult,
+    ShortResult = 10,
 }
 
 impl Refusal {
@@ -35,17 +35,6 @@ impl Refusal {
     pub fn number(self) -> u8
         ensures { result ≡ number_of self }
     {
-        match self {
-            Refusal::VariableCount => 1,
-            Refusal::DomainSize => 2,
-            Refusal::NoSuchConstraint => 3,
-            Refusal::EndOutside => 4,
-            Refusal::AlreadyIn => 5,
-            Refusal::NotIn => 6,
-            Refusal::ShortBuffer => 7,
-            Refusal::ClockSpent => 8,
-            Refusal::NoSuchValue => 9,
-            Refusal::ShortResult => 10,
-        }
+        self as u8
     }
 }
