@@ -3,7 +3,7 @@
 
 mod make;
 
-pub use make::{capped, full, no_constraints, no_domains, transposed};
+pub use make::{capped, full, no_constraints, no_domains};
 
 // The justification of the value x of the variable i stands at 64 * i + x: a constraint and a time.
 #[derive(Drop)]

@@ -1,6 +1,6 @@
 // Data to begin with.
 ghost use Rattle.std.specs.Prelude.{◌≡◌, ℕ, ◌^◌, ◌<◌, min, ◌&&◌, nat_lt, length, replicate, if◌then◌else◌, slice_index};
-ghost use Rattle.bits.specs.Bits.{domains_of, has_bit};
+ghost use Rattle.bits.specs.Bits.{domains_of};
 ghost use Rattle.domains.specs.Make.{no_constraints, no_domains};
 
 use crate::{Constraints, Domains, Justifications};
@@ -61,31 +61,6 @@ pub fn full(sizes: &[u8; 32]) -> [u64; 32]
     let mut all = no_sets();
     for i in 0..32 {
         all[i] = bits::below(sizes[i] as usize);
-    }
-    all
-}
-
-// Which of the rows have the bit.
-fn column(rows: &[u64; 64], bit: usize) -> u64
-    ensures { (x : ℕ) → x < 64 → has_bit result x ≡ has_bit (slice_index rows.now x) bit }
-{
-    let mut all = 0;
-    for x in 0..64 {
-        if bits::has(rows[x], bit) {
-            all = bits::with(all, x);
-        }
-    }
-    all
-}
-
-// The same pairs from the other side: row y has bit x where row x has bit y.
-pub fn transposed(rows: &[u64; 64]) -> [u64; 64]
-    ensures long { length result ≡ 64 }
-    ensures turned { (x y : ℕ) → x < 64 → y < 64 → has_bit (slice_index result y) x ≡ has_bit (slice_index rows.now x) y }
-{
-    let mut all = [0; 64];
-    for y in 0..64 {
-        all[y] = column(rows, y);
     }
     all
 }

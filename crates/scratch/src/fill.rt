@@ -1,7 +1,7 @@
 // The constraints named, asked of the catalog once for each pair of values and kept as arcs.
-ghost use Rattle.std.specs.Prelude.{◌≡◌, ℕ, ◌<◌, ◌≤◌, false, length, replicate, Some, None, slice_index, slice_index_or};
+ghost use Rattle.std.specs.Prelude.{◌≡◌, ℕ, ◌<◌, ◌≤◌, false, length, Some, None, slice_index_or};
 ghost use Rattle.arcs.specs.Family.{within_sizes};
-ghost use Rattle.bits.specs.Bits.{domains_of, has_bit};
+ghost use Rattle.bits.specs.Bits.{domains_of};
 ghost use Rattle.catalog.specs.Meaning.{allowed, ends_of};
 ghost use Rattle.refusal.specs.Causes.{constraint_refusal};
 ghost use Rattle.scratch.specs.Filled.{Adds, Filled, Holds, Turned};
@@ -12,13 +12,6 @@ ghost use Rattle.scratch.specs.Rows.{Bounded, off_arc};
 use crate::arc::Arc;
 use catalog::Catalog;
 
-// 64 empty rows.
-fn no_rows() -> [u64; 64]
-    ensures { result ≡ replicate 64 0 }
-{
-    [0; 64]
-}
-
 // An arc that is off.
 fn off() -> Arc
     ensures { result.on ≡ false }
@@ -27,7 +20,7 @@ fn off() -> Arc
         on: false,
         near: 0,
         far: 0,
-        rows: no_rows(),
+        rows: [0; 64],
     }
 }
 
@@ -39,57 +32,6 @@ pub(crate) fn no_arcs() -> [Arc; 256]
     [off(); 256]
 }
 
-// The values of the right end below `size` that the constraint `p` allows beside the value `x` of the left end.
-fn row<C: Catalog>(catalog: &C, p: usize, x: usize, size: usize) -> u64
-    requires { size ≤ 64 }
-    ensures { (y : ℕ) → y < size → has_bit result y ≡ allowed (C.Catalog.meaning catalog.now) p x y }
-{
-    let mut row = 0;
-    for y in 0..size {
-        if catalog.allows(p, x, y) {
-            row = bits::with(row, y);
-        }
-    }
-    row
-}
-
-// The rows of the constraint `p`, for values of its ends below these sizes.
-fn rows<C: Catalog>(catalog: &C, p: usize, left_size: usize, right_size: usize) -> [u64; 64]
-    requires left { left_size ≤ 64 }
-    requires right { right_size ≤ 64 }
-    ensures { (x y : ℕ) → x < left_size → y < right_size → has_bit (slice_index result x) y ≡ allowed (C.Catalog.meaning catalog.now) p x y }
-{
-    let mut rows = no_rows();
-    for x in 0..left_size {
-        rows[x] = row(catalog, p, x, right_size);
-    }
-    rows
-}
-
-// The rows that have the value `y`.
-fn column(rows: &[u64; 64], y: usize) -> u64
-    ensures { (x : ℕ) → x < 64 → has_bit result x ≡ has_bit (slice_index rows.now x) y }
-{
-    let mut column = 0;
-    for x in 0..64 {
-        if bits::has(rows[x], y) {
-            column = bits::with(column, x);
-        }
-    }
-    column
-}
-
-// The same pairs, seen from the other end.
-fn columns(rows: &[u64; 64]) -> [u64; 64]
-    ensures { (x y : ℕ) → x < 64 → y < 64 → has_bit (slice_index result y) x ≡ has_bit (slice_index rows.now x) y }
-{
-    let mut columns = no_rows();
-    for y in 0..64 {
-        columns[y] = column(rows, y);
-    }
-    columns
-}
-
 // The constraint `p` seen from its left end `a`, with the right end `b`.
 fn from_left<C: Catalog>(catalog: &C, sizes: &[usize], p: usize, a: usize, b: usize) -> Arc
     requires left { a < length sizes.now }
@@ -97,7 +39,7 @@ fn from_left<C: Catalog>(catalog: &C, sizes: &[usize], p: usize, a: usize, b: us
     requires bounded { Bounded sizes.now }
     ensures { Holds sizes.now a b (allowed (C.Catalog.meaning catalog.now) p) result }
 {
-    let rows = rows(catalog, p, sizes[a], sizes[b]);
+    let rows = supports::rows(catalog, p, sizes[a], sizes[b]);
     Arc {
         on: true,
         near: a,
@@ -110,7 +52,7 @@ fn from_left<C: Catalog>(catalog: &C, sizes: &[usize], p: usize, a: usize, b: us
 fn turned(arc: &Arc) -> Arc
     ensures { Turned arc.now result }
 {
-    let rows = columns(&arc.rows);
+    let rows = supports::turned(&arc.rows);
     Arc {
         on: arc.on,
         near: arc.far,

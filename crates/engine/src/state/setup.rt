@@ -6,7 +6,7 @@ ghost use Rattle.engine.specs.Calls.{Opened, can_load};
 
 use super::Engine;
 use crate::change::unmarked;
-use domains::{Constraints, capped, full, no_constraints, no_domains, transposed};
+use domains::{Constraints, capped, full, no_constraints, no_domains};
 
 fn can_load(c: &Constraints, constraint: usize, left: usize, right: usize) -> bool
     requires { Arrays c.now }
@@ -67,7 +67,7 @@ impl Engine {
         if !can_load(&self.constraints, constraint, left, right) {
             return false;
         }
-        let turned = transposed(rows);
+        let turned = supports::turned(rows);
         self.constraints.left[constraint] = left as u8;
         self.constraints.right[constraint] = right as u8;
         write_rows(&mut self.constraints.rows, 128 * constraint, rows);

@@ -1,15 +1,7 @@
 use Rattle.std.proofs.Common.{refl, arith}
-use Rattle.network_model.proofs.Asking.{stands_in}
+use Rattle.std.proofs.lemmas.Grind.{common_steps}
 use Rattle.network_model.proofs.Learning.{learnt}
 use Rattle.network.proofs.knowing.know.Goals as goal
-
-pub rows-rows-requires : goal.rows-rows-requires
-rows-rows-requires g c =
-    let small = (stands_in c.args.state.now).shape.small in
-    record {
-      left = omega (arith, c.size.ensures, small c.args.left);
-      right = omega (arith, c.size-then-not-state-constraint.ensures, small c.args.right);
-    }
 
 pub returns-then-not-state-constraint : goal.returns-then-not-state-constraint
 returns-then-not-state-constraint g c =
@@ -17,5 +9,5 @@ returns-then-not-state-constraint g c =
     let m = g.C.Catalog.meaning c.args.catalog.now in
     learnt m (g.C.Catalog.lawful c.args.catalog.now) c.args.constraint c.args.left c.args.right c.requires.ends
     c.args.state.now _ c.rows-rows.result c.load.result c.requires.absent c.load.ensures.can c.load.ensures.loaded c.load.ensures.domains refl refl
-    (λ x y hx hy. c.rows-rows.ensures x y (omega (arith, c.size.ensures)) (omega (arith, c.size-then-not-state-constraint.ensures)))
+    (λ x y hx hy. grind (arith, common_steps, c.rows-rows.ensures x y, c.size.ensures, c.size-then-not-state-constraint.ensures))
     linked
