@@ -7,14 +7,14 @@ use domains::Justification;
 use refusal::Refusal;
 
 // What an accepted add or retract did: how many values it took away or brought back, and the wiped-out variable after it.
-#[derive(Clone, Copy)]
+#[derive(Clone, Copy, PartialEq, Eq, Debug)]
 pub struct Change {
     pub values: u32,
     pub wiped: Option<usize>,
 }
 
 // What a call answers.
-#[derive(Clone, Copy)]
+#[derive(Clone, Copy, PartialEq, Eq, Debug)]
 pub enum Answer {
     Opened,
     Changed(Change),
