@@ -41,7 +41,7 @@ pub struct Arc {
 }
 
 // By which constraint a value is out, and since when.
-#[derive(Clone, Copy)]
+#[derive(Clone, Copy, PartialEq, Eq, Debug)]
 pub struct Justification {
     pub constraint: usize,
     pub time: u32,

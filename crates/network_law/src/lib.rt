@@ -10,7 +10,7 @@ use refusal::Refusal;
 use std::fmt;
 
 // What an accepted add or retract did: how many values it took away or brought back, and the wiped-out variable after it.
-#[derive(Clone, Copy)]
+#[derive(Clone, Copy, PartialEq, Eq, Debug)]
 pub struct Change {
     pub values: u32,
     pub wiped: Option<usize>,
@@ -30,7 +30,7 @@ impl fmt::Display for Change {
 }
 
 // What a call answers.
-#[derive(Clone, Copy)]
+#[derive(Clone, Copy, PartialEq, Eq, Debug)]
 pub enum Answer {
     Opened,
     Changed(Change),
