@@ -32,7 +32,7 @@ pub struct Constraints {
 }
 
 // A constraint seen from one of its ends, with the first of its rows on that side.
-#[derive(Clone, Copy)]
+#[derive(Clone, Copy, PartialEq, Eq, Debug)]
 pub struct Arc {
     pub constraint: usize,
     pub near: usize,
@@ -48,7 +48,7 @@ pub struct Justification {
 }
 
 // A value that came back, with the time of the justification that it had.
-#[derive(Clone, Copy)]
+#[derive(Clone, Copy, PartialEq, Eq, Debug)]
 pub struct Returning {
     pub variable: u8,
     pub value: u8,
