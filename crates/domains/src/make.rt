@@ -1,6 +1,6 @@
 // Data to begin with.
 ghost use Rattle.std.specs.Prelude.{◌≡◌, ℕ, ◌^◌, ◌<◌, min, ◌&&◌, nat_lt, length, replicate, if◌then◌else◌, slice_index};
-ghost use Rattle.bits.specs.Bits.{domains_of};
+ghost use Rattle.bits.specs.Bits.{domains_of, has_bit};
 ghost use Rattle.domains.specs.Make.{no_constraints, no_domains};
 
 use crate::{Constraints, Domains, Justifications};
