@@ -1,2 +1,4 @@
-mod Loops
 mod Answered
+mod Chunks
+mod Unknown
+mod Used

@@ -1,29 +1,30 @@
 -- What reading one record more says of the verdict.
-use Rattle.std.specs.Prelude.{◌≡◌, ℕ, ◌+◌, ◌≤◌, List, length, drop, Ok, Err, Result}
-use Rattle.sheet_format.specs.declared.faults.Cause.{Cause}
-use Rattle.sheet_format.specs.declared.faults.FormatFault.{FormatFault}
+use Rattle.std.specs.Prelude.{◌≡◌, ℕ, ◌+◌, ◌≤◌, List, length, Ok, Err, Result}
+use Rattle.std.specs.declared.ops.ControlFlow.{ControlFlow}
+use Rattle.std.specs.declared.ops.ControlFlow.TheVariants.{Continue, Break}
+use Rattle.sheet_format.specs.declared.found.Summary.{Summary}
 use Rattle.sheet_format.specs.declared.faults.SheetFault.{SheetFault}
 use Rattle.sheet_format.specs.Reading.{reading}
 use Rattle.sheet_format.specs.Verdict.{Tally, Verdict, after_reading}
-use Rattle.sheet.specs.declared.checking.Next.{Next}
-use Rattle.sheet.specs.declared.checking.Next.TheVariants.{More, Done}
-use Rattle.sheet.specs.Steps.{tally_of}
+use Rattle.sheet.specs.declared.checking.Walk.{Walk}
 
--- a result whose cause has its byte added
-abbrev pub placed_result : {T : Type 0} → Result T Cause → ℕ → Result T FormatFault
-placed_result (Ok x) byte = Ok x
-placed_result (Err cause) byte = Err (record { cause = cause; byte = byte })
+-- what goes on from some bytes, which begin at a place, with so many records before them, and a tally
+abbrev pub Onward : Type 0
+Onward = List ℕ → ℕ → ℕ → Tally → Verdict
 
--- the verdict after one record of xs, for whatever goes on from there
-abbrev pub onward : (List ℕ → ℕ → ℕ → Tally → Verdict) → Tally → List ℕ → ℕ → ℕ → Verdict
-onward go g xs place records = after_reading go g place records (length xs) (reading xs place)
+-- the verdict of a walk, for whatever goes on after its next record
+abbrev pub after_record : Onward → Walk → Verdict
+after_record go w = after_reading go w.progress w.place w.records (length w.input.now) (reading w.input.now w.place)
 
--- what the answer r says of that verdict
-abbrev pub Advanced : Tally → List ℕ → ℕ → ℕ → Result Next SheetFault → Type 0
-Advanced g xs place records (Ok (More next long)) =
-    ((go : List ℕ → ℕ → ℕ → Tally → Verdict) → onward go g xs place records ≡ go (drop long xs) (place + long) (records + 1) (tally_of next))
-    × (4 ≤ long) × (long ≤ length xs) × (next.moves ≤ g.moves + 1)
-Advanced g xs place records (Ok (Done summary)) =
-    (go : List ℕ → ℕ → ℕ → Tally → Verdict) → onward go g xs place records ≡ Ok summary
-Advanced g xs place records (Err fault) =
-    (go : List ℕ → ℕ → ℕ → Tally → Verdict) → onward go g xs place records ≡ Err fault
+-- the next walk has one record behind it that this one has not, and the same bytes in all
+pub record OneFurther (w next : Walk) : Type 0 where
+  pub goes_on : (go : Onward) → after_record go w ≡ go next.input.now next.place (w.records + 1) next.progress
+  pub counted : next.records ≡ w.records + 1
+  pub same_end : next.place + length next.input.now ≡ w.place + length w.input.now
+  pub further : length next.input.now + 4 ≤ length w.input.now
+
+-- what the answer says of that verdict
+abbrev pub Advanced : Walk → Result (ControlFlow Summary Walk) SheetFault → Type 0
+Advanced w (Ok (Continue next)) = OneFurther w next
+Advanced w (Ok (Break summary)) = (go : Onward) → after_record go w ≡ Ok summary
+Advanced w (Err fault) = (go : Onward) → after_record go w ≡ Err fault

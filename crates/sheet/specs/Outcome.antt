@@ -1,6 +1,7 @@
 -- What the reader's answers say, as plain data.
-use Rattle.std.specs.Prelude.{◌≡◌, ℕ, List, Some, None, Ok, Err, Option, Result}
+use Rattle.std.specs.Prelude.{◌≡◌, ℕ, List, Ok, Err, Result}
 use Rattle.std.specs.Borrow.{Bor}
+use Rattle.sheet_format.specs.declared.faults.RecordCause.{RecordCause}
 use Rattle.sheet_format.specs.declared.faults.RecordFault.{RecordFault}
 use Rattle.sheet_format.specs.Reading.{Shown, shows_heading, shows_variable, shows_sum, shows_table, shows_short_table, shows_add, shows_retract, shows_end, Reading, taken, broken}
 use Rattle.sheet.specs.declared.reader.Record.{Record}
@@ -17,9 +18,10 @@ shown_by (Add body) = shows_add body.now
 shown_by (Retract body) = shows_retract body.now
 shown_by (End body) = shows_end body.now
 
-abbrev pub option_shown : Option Record → Option Shown
-option_shown None = None
-option_shown (Some r) = Some (shown_by r)
+-- What was taken off and what is left, or the cause.
+abbrev pub Taken : Result (Record × Bor (List ℕ)) RecordCause → Reading → Type 0
+Taken (Ok pair) r = r ≡ taken (shown_by pair.0) pair.1.now
+Taken (Err cause) r = r ≡ broken cause
 
 -- The reader's answer, of a record that begins at a place: what was taken and what is left, or the cause, with that very place.
 abbrev pub Answers : ℕ → Result (Record × Bor (List ℕ)) RecordFault → Reading → Type 0

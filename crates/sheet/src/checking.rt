@@ -1,91 +1,86 @@
 // The check of a whole sheet.
-ghost use Rattle.std.specs.Prelude.{◌≡◌, suc, ◌+◌, ◌<◌, ◌≤◌, length};
-ghost use Rattle.sheet_format.specs.Verdict.{verdict, walked, nothing_yet, summary};
+ghost use Rattle.std.specs.Prelude.{◌≡◌, suc, ◌+◌, ◌*◌, ◌≤◌, length};
+ghost use Rattle.sheet_format.specs.Verdict.{verdict, walked, nothing_yet, format_fault};
 ghost use Rattle.sheet_format.specs.Law.{Law};
-ghost use Rattle.sheet.specs.Steps.{tally_of};
-ghost use Rattle.sheet.specs.Advance.{Advanced, placed_result};
 
 use crate::progress::Progress;
 use crate::reader::read_record;
-use crate::steps::{Flow, admit, nothing_yet};
 use sheet_format::{Cause, Counted, FormatFault, SheetFault, Summary, after_records};
+use std::ops::ControlFlow;
 
-// After a record: more are due after its bytes, of which there were so many, or the sheet is accepted.
-#[derive(Clone, Copy)]
-pub enum Next {
-    More(Progress, usize),
-    Done(Summary),
+// A walk over a sheet, record by record: how far the check has come, the bytes that are left, the place at which they begin, and how many
+// records came before it. A record has four bytes or more.
+#[derive(Drop)]
+pub struct Walk<'a> {
+    progress: Progress,
+    input: &'a [u8],
+    place: u32,
+    records: u32,
+    ghost short: { place + length input.now ≤ 65535 },
+    ghost counted: { 4 * records ≤ place },
+    ghost few: { progress.moves ≤ records },
 }
 
-// what an accepted sheet holds
-fn summary_of(progress: &Progress) -> Summary
-    ensures { result ≡ summary (tally_of progress.now) }
+// the fault of a sheet that the format refuses at a byte, with so many records before
+fn refused(cause: Cause, byte: u32, records: u32) -> SheetFault
+    ensures { Err result ≡ format_fault cause byte records }
 {
-    let variables = progress.n as u32;
-    Summary {
-        variables,
-        constraints: progress.constraints,
-        moves: progress.moves,
-        constraints_at: 8 + 8 * variables,
-        moves_at: progress.reached,
-    }
+    SheetFault::Format(Counted {
+        fault: FormatFault { cause, byte },
+        records,
+    })
 }
 
-// a cause with the byte at which it stands
-fn placed<T>(outcome: Result<T, Cause>, byte: u32) -> Result<T, FormatFault>
-    ensures { result ≡ placed_result outcome byte }
-{
-    match outcome {
-        Ok(value) => Ok(value),
-        Err(cause) => Err(FormatFault { cause, byte }),
-    }
-}
+impl<'a> Walk<'a> {
+    ghost use Rattle.sheet.specs.Advance.{Advanced};
 
-// One record more, from bytes that begin at `place`, with so many records before it.
-fn advance(progress: Progress, input: &[u8], place: u32, records: u32) -> Result<Next, SheetFault>
-    requires { (progress.moves < 65536) × ((place + length input.now < 65536) × (records < 65536)) }
-    ensures { Advanced (tally_of progress) input.now place records result }
-{
-    let (taken, rest) = after_records(read_record(input, place), records)?;
-    let length = input.len() - rest.len();
-    let end = place + length as u32;
-    let flow = after_records(placed(admit(progress, taken, end), place), records)?;
-    match flow {
-        Flow::Goes(next) => Ok(Next::More(next, length)),
-        Flow::Ends => {
-            if rest.len() != 0 {
-                let fault = FormatFault {
-                    cause: Cause::Trailing,
-                    byte: end,
-                };
-                return Err(SheetFault::Format(Counted {
-                    fault,
-                    records: records + 1,
-                }));
+    // One record more: the walk goes on after it, or the sheet is accepted.
+    fn advance(self) -> Result<ControlFlow<Summary, Walk<'a>>, SheetFault>
+        ensures { Advanced self.entry result }
+    {
+        let Walk {
+            progress,
+            input,
+            place,
+            records,
+        } = self;
+        let (taken, rest) = after_records(read_record(input, place), records)?;
+        let end = place + (input.len() - rest.len()) as u32;
+        let flow = progress
+            .admit(taken, end)
+            .map_err(|cause| refused(cause, place, records))?;
+        match flow {
+            ControlFlow::Continue(progress) => Ok(ControlFlow::Continue(Walk {
+                progress,
+                input: rest,
+                place: end,
+                records: records + 1,
+            })),
+            ControlFlow::Break(summary) => {
+                if !rest.is_empty() {
+                    return Err(refused(Cause::Trailing, end, records + 1));
+                }
+                Ok(ControlFlow::Break(summary))
             }
-            Ok(Next::Done(summary_of(&progress)))
         }
     }
 }
 
 // The records of a sheet one by one, to its end or to its first fault.
-fn walk(sheet: &[u8]) -> Result<Summary, SheetFault>
+fn walk_through(sheet: &[u8]) -> Result<Summary, SheetFault>
     requires { length sheet.now ≤ 65535 }
     ensures { result ≡ walked (suc (length sheet.now)) sheet.now 0 0 nothing_yet }
 {
-    let mut progress = nothing_yet();
-    let mut input = sheet;
-    let mut place = 0;
-    let mut records = 0;
+    let mut walk = Walk {
+        progress: Progress::new(),
+        input: sheet,
+        place: 0,
+        records: 0,
+    };
     loop {
-        match advance(progress, input, place, records)? {
-            Next::Done(summary) => return Ok(summary),
-            Next::More(next, length) => {
-                input = &input[length..];
-                place += length as u32;
-                records += 1;
-                progress = next;
-            }
+        match walk.advance()? {
+            ControlFlow::Break(summary) => return Ok(summary),
+            ControlFlow::Continue(next) => walk = next,
         }
     }
 }
@@ -96,11 +91,7 @@ pub fn check(sheet: &[u8]) -> Result<Summary, SheetFault>
     ensures law { Law sheet.now result }
 {
     if sheet.len() > 65535 {
-        let fault = FormatFault {
-            cause: Cause::TooLong,
-            byte: 65535,
-        };
-        return Err(SheetFault::Format(Counted { fault, records: 0 }));
+        return Err(refused(Cause::TooLong, 65535, 0));
     }
-    walk(sheet)
+    walk_through(sheet)
 }

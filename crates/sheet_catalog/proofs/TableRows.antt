@@ -1,5 +1,6 @@
 -- Row by row through the bytes of a table.
-use Rattle.std.proofs.Common.{◌≡◌, ℕ, zero, suc, ◌+◌, ◌*◌, ◌/◌, ◌<◌, ◌≤◌, Bool, true, false, cond, ◌&&◌, ltb, List, length, get_or, drop, Some, None, sym, refl, ap, ◌∙◌, arith}
+use Rattle.std.proofs.Common.{◌≡◌, ℕ, zero, suc, ◌+◌, ◌*◌, ◌/◌, ◌<◌, ◌≤◌, Bool, true, false, cond, ◌&&◌, ltb, List, length, get_or, drop, Some, None, Option, sym, subst, refl, ap, ◌∙◌, arith}
+use Rattle.std.specs.Option.{MatchOption}
 use Rattle.std.proofs.lemmas.List.{get_or-drop}
 use Rattle.std.proofs.lemmas.Bool.{lt-ltb, le-ltb, ltb-true, ltb-false}
 use Rattle.bits.specs.Bits.{has_bit}
@@ -49,17 +50,11 @@ pub row_refuses : (xs : List ℕ) (x y : ℕ) → length xs / 8 ≤ x → false 
 row_refuses xs x y h =
     sym (ap (λ b. b && has_bit (get_or (rows_in (length xs / 8) xs) x 0) y) (ap (ltb x) (rows_long (length xs / 8) xs) ∙ le-ltb x (length xs / 8) h))
 
--- the same of what the code reads
-pub row_told : (xs : List ℕ) (x y row : ℕ) → Some row ≡ cond (ltb x (length xs / 8)) (Some (number8 xs (8 * x))) None → has_bit row y ≡ table_allows (rows_in (length xs / 8) xs) x y
-row_told xs x y row e = by (ltb x (length xs / 8)) refl e
+-- the same of what the code reads: the row, if there is one, and the bit in it
+pub row_decided : (xs : List ℕ) (x y : ℕ) (row : Option ℕ) (told : Bool) → row ≡ cond (ltb x (length xs / 8)) (Some (number8 xs (8 * x))) None
+    → MatchOption row (told ≡ false) (λ r. told ≡ has_bit r y) → told ≡ table_allows (rows_in (length xs / 8) xs) x y
+row_decided xs x y row told e m = by (ltb x (length xs / 8)) refl e
   where
-    by : (b : Bool) → ltb x (length xs / 8) ≡ b → Some row ≡ cond b (Some (number8 xs (8 * x))) None → has_bit row y ≡ table_allows (rows_in (length xs / 8) xs) x y
-    by true t e = let same : row ≡ number8 xs (8 * x) = cc in ap (λ r. has_bit r y) same ∙ row_allows xs x y (ltb-true x (length xs / 8) t)
-    by false t e = absurd (let z : ◌≡◌ {A = ℕ} 0 1 = cc in omega arith)
-
-pub no_row_told : (xs : List ℕ) (x y : ℕ) → None ≡ cond (ltb x (length xs / 8)) (Some (number8 xs (8 * x))) None → false ≡ table_allows (rows_in (length xs / 8) xs) x y
-no_row_told xs x y e = by (ltb x (length xs / 8)) refl e
-  where
-    by : (b : Bool) → ltb x (length xs / 8) ≡ b → None ≡ cond b (Some (number8 xs (8 * x))) None → false ≡ table_allows (rows_in (length xs / 8) xs) x y
-    by true t e = absurd (let z : ◌≡◌ {A = ℕ} 0 1 = cc in omega arith)
-    by false t e = row_refuses xs x y (ltb-false x (length xs / 8) t)
+    by : (b : Bool) → ltb x (length xs / 8) ≡ b → row ≡ cond b (Some (number8 xs (8 * x))) None → told ≡ table_allows (rows_in (length xs / 8) xs) x y
+    by true t q = subst (λ o. MatchOption o (told ≡ false) (λ r. told ≡ has_bit r y)) q m ∙ row_allows xs x y (ltb-true x (length xs / 8) t)
+    by false t q = subst (λ o. MatchOption o (told ≡ false) (λ r. told ≡ has_bit r y)) q m ∙ row_refuses xs x y (ltb-false x (length xs / 8) t)

@@ -41,9 +41,7 @@ impl<'a> Catalog for SheetCatalog<'a> {
     }
 
     fn allows(&self, p: usize, x: usize, y: usize) -> bool {
-        match self.constraint(p) {
-            Some(constraint) => constraint.allows(x, y),
-            None => false,
-        }
+        self.constraint(p)
+            .is_some_and(|constraint| constraint.allows(x, y))
     }
 }

@@ -5,7 +5,7 @@ ghost use Rattle.sheet_meaning.specs.Meant.{constraint_at, sheet_in};
 ghost use Rattle.sheet_catalog.specs.Viewed.{meant};
 
 use crate::SheetCatalog;
-use crate::starts::{constraint_at, no_starts, starts_of};
+use crate::starts::{constraint_at, starts_of};
 use crate::view::Constraint;
 use sheet::check;
 
@@ -26,7 +26,7 @@ impl<'a> SheetCatalog<'a> {
             Err(_) => SheetCatalog {
                 bytes,
                 count: 0,
-                starts: no_starts(),
+                starts: [0; 96],
             },
         }
     }

@@ -10,23 +10,7 @@ ghost use Rattle.sheet_catalog.specs.Viewed.{meant, constraint_read};
 
 use crate::view::{Constraint, constraint_in};
 use sheet::read_record;
-use sheet_format::Summary;
-
-// no constraint begins anywhere
-pub(crate) fn no_starts() -> [u32; 96]
-    ensures { result ≡ replicate 96 0 }
-{
-    [0; 96]
-}
-
-// the length of the record that begins at a place
-fn record_length(bytes: &[u8], place: u32) -> u32
-    requires { place + 4 ≤ length bytes.now }
-    ensures { result ≡ number2 bytes.now place }
-{
-    let k = place as usize;
-    u16::from_le_bytes([bytes[k], bytes[k + 1]]) as u32
-}
+use sheet_format::{Summary, word};
 
 // Where each constraint of the sheet begins, one after the other.
 pub(crate) fn starts_of(bytes: &[u8], found: Summary) -> [u32; 96]
@@ -34,11 +18,11 @@ pub(crate) fn starts_of(bytes: &[u8], found: Summary) -> [u32; 96]
     ensures wide { length result ≡ 96 }
     ensures begun { (p : ℕ) → p < found.constraints → Begun bytes.now (decode bytes.now) result p }
 {
-    let mut starts = no_starts();
+    let mut starts = [0; 96];
     let mut place = found.constraints_at;
     for p in 0..found.constraints as usize {
         starts[p] = place;
-        place += record_length(bytes, place);
+        place += word(bytes, place as usize) as u32;
     }
     starts
 }
@@ -48,8 +32,6 @@ pub(crate) fn constraint_at(bytes: &[u8], start: u32) -> Option<Constraint<'_>>
     requires { start ≤ length bytes.now }
     ensures { option_map meant result ≡ constraint_read (reading (drop start bytes.now) start) }
 {
-    match read_record(&bytes[start as usize..], start) {
-        Ok((found, _)) => constraint_in(found),
-        Err(_) => None,
-    }
+    let (found, _) = read_record(&bytes[start as usize..], start).ok()?;
+    constraint_in(found)
 }

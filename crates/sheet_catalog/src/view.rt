@@ -3,7 +3,7 @@ ghost use Rattle.std.specs.Prelude.{◌≡◌, ◌+◌, ◌*◌, ◌/◌, ◌<�
 ghost use Rattle.std.proofs.Common.{to_z};
 ghost use Rattle.std.specs.Int.{w16, w32};
 ghost use Rattle.std.specs.Option.{option_map};
-ghost use Rattle.sheet_format.specs.Numbers.{number2, number4, number8};
+ghost use Rattle.sheet_format.specs.Numbers.{number8};
 ghost use Rattle.sheet_format.specs.Decoding.{rows_in};
 ghost use Rattle.sheet_format.specs.Verdict.{between_z};
 ghost use Rattle.sheet_meaning.specs.Meant.{sum_allows, table_allows, pair_allowed};
@@ -11,6 +11,7 @@ ghost use Rattle.sheet.specs.Outcome.{shown_by};
 ghost use Rattle.sheet_catalog.specs.Viewed.{meant, sum_shown, constraint_shown};
 
 use sheet::Record;
+use sheet_format::{long, row, word};
 
 // Allows x beside y when lo <= m * x + k * y <= hi.
 #[derive(Clone, Copy)]
@@ -37,22 +38,6 @@ pub struct Constraint<'a> {
     pub pairs: Pairs<'a>,
 }
 
-// the factor that stands in two bytes, from the byte k on
-fn factor(body: &[u8], k: usize) -> i16
-    requires { k + 1 < length body.now }
-    ensures { result ≡ to_z w16 (number2 body.now k) }
-{
-    i16::from_le_bytes([body[k], body[k + 1]])
-}
-
-// the limit that stands in four bytes, from the byte k on
-fn limit(body: &[u8], k: usize) -> i32
-    requires { k + 3 < length body.now }
-    ensures { result ≡ to_z w32 (number4 body.now k) }
-{
-    i32::from_le_bytes([body[k], body[k + 1], body[k + 2], body[k + 3]])
-}
-
 // the sum constraint that a body holds
 fn sum_in(body: &[u8]) -> Option<Constraint<'_>>
     ensures { option_map meant result ≡ sum_shown body.now }
@@ -61,10 +46,10 @@ fn sum_in(body: &[u8]) -> Option<Constraint<'_>>
         return None;
     }
     let formula = Formula {
-        m: factor(body, 2),
-        k: factor(body, 4),
-        lo: limit(body, 6),
-        hi: limit(body, 10),
+        m: word(body, 2).cast_signed(),
+        k: word(body, 4).cast_signed(),
+        lo: long(body, 6).cast_signed(),
+        hi: long(body, 10).cast_signed(),
     };
     Some(Constraint {
         left: body[0],
@@ -79,7 +64,7 @@ pub(crate) fn constraint_in(record: Record<'_>) -> Option<Constraint<'_>>
 {
     match record {
         Record::Sum(body) => sum_in(body),
-        Record::Table(left, right, rows) => Some(Constraint {
+        Record::Table { left, right, rows } => Some(Constraint {
             left,
             right,
             pairs: Pairs::Table(rows.bytes),
@@ -107,7 +92,8 @@ fn within(lo: i32, hi: i32, total: i64) -> bool
 impl Formula {
     // Does the formula hold for these values? With values below 64 nothing wraps.
     fn holds(self, x: usize, y: usize) -> bool
-        requires { (x < 64) × (y < 64) }
+        requires left { x < 64 }
+        requires right { y < 64 }
         ensures { result ≡ sum_allows self.m self.k self.lo self.hi x y }
     {
         within(self.lo, self.hi, term(self.m, x) + term(self.k, y))
@@ -115,33 +101,17 @@ impl Formula {
 }
 
 // row x of a table, if it has one
-fn row(rows: &[u8], x: usize) -> Option<u64>
+fn row_at(rows: &[u8], x: usize) -> Option<u64>
     ensures { result ≡ (if nat_lt x (length rows.now / 8) then Some (number8 rows.now (8 * x)) else None) }
 {
-    if x >= rows.len() / 8 {
-        return None;
-    }
-    let k = 8 * x;
-    Some(u64::from_le_bytes([
-        rows[k],
-        rows[k + 1],
-        rows[k + 2],
-        rows[k + 3],
-        rows[k + 4],
-        rows[k + 5],
-        rows[k + 6],
-        rows[k + 7],
-    ]))
+    (x < rows.len() / 8).then(|| row(rows, 8 * x))
 }
 
 // Is bit y of row x set? No past the rows.
 fn row_has(rows: &[u8], x: usize, y: usize) -> bool
     ensures { result ≡ table_allows (rows_in (length rows.now / 8) rows.now) x y }
 {
-    match row(rows, x) {
-        Some(row) => bits::has(row, y),
-        None => false,
-    }
+    row_at(rows, x).is_some_and(|row| bits::has(row, y))
 }
 
 impl<'a> Constraint<'a> {

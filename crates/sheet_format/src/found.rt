@@ -5,7 +5,7 @@ ghost use Rattle.sheet_format.specs.Lines.{accepted_line};
 use std::fmt;
 
 // A variable of a sheet: how many values it has, and its house number.
-#[derive(Clone, Copy, PartialEq, Eq, Debug)]
+#[derive(Clone, Copy, PartialEq, Eq, Debug, Default)]
 pub struct Variable {
     pub size: u16,
     pub house: u16,

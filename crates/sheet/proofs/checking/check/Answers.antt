@@ -9,8 +9,8 @@ use Rattle.sheet.proofs.checking.check.Goals as goal
 pub returns : goal.returns
 returns c =
     let xs : List ℕ = c.args.sheet.now in
-    let v : ◌≡◌ {A = Verdict} c.walk.result (verdict xs) =
-    c.walk.ensures ∙ sym (cond-false (ltb 65535 (length xs)) _ _ (le-ltb 65535 (length xs) c.if-sheet-gt65535.false)) in
+    let v : ◌≡◌ {A = Verdict} c.walk_through.result (verdict xs) =
+    c.walk_through.ensures ∙ sym (cond-false (ltb 65535 (length xs)) _ _ (le-ltb 65535 (length xs) c.if-sheet-gt65535.false)) in
     record {
       verdict = v;
       law = subst (Law xs) (sym v) (law xs (All-from_get_or (λ b. b < 256) xs 0 (λ i _. (c.type_inv.sheet i).fits)));

@@ -1,9 +1,6 @@
-use Rattle.std.proofs.Common.{◌∙◌}
-use Rattle.sheet_catalog.proofs.TableRows.{row_told, no_row_told}
+use Rattle.std.proofs.Common.{rules}
+use Rattle.sheet_catalog.proofs.TableRows.{row_decided}
 use Rattle.sheet_catalog.proofs.view.row_has.Goals as goal
 
-pub returns-in-Some : goal.returns-in-Some
-returns-in-Some c = c.has.ensures ∙ row_told c.args.rows.now c.args.x c.args.y c.in-Some.row c.in-Some.ensures
-
-pub returns-in-None : goal.returns-in-None
-returns-in-None c = no_row_told c.args.rows.now c.args.x c.args.y c.in-None.ensures
+pub returns : goal.returns
+returns c = row_decided c.args.rows.now c.args.x c.args.y c.row_at.result _ c.row_at.ensures (search rules)
