@@ -1,3 +1,4 @@
 pub mod Bitwise
 pub mod Edits
 pub mod Coded
+mod Texts

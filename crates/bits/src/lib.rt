@@ -4,6 +4,10 @@
 ghost use Rattle.std.specs.Prelude.{◌≡◌, ℕ, ◌<◌, ◌≤◌, true, not, ◌&&◌, ◌||◌, ◌==◌, nat_lt};
 ghost use Rattle.bits.specs.Bits.{has_bit};
 
+mod values;
+
+pub use values::Values;
+
 // Bit x of d.
 fn bit(d: u64, x: usize) -> bool
     requires { x < 64 }

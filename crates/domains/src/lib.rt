@@ -3,7 +3,7 @@
 
 mod make;
 
-pub use make::{capped, full, no_constraints, no_domains, transposed};
+pub use make::{capped, full, no_constraints, no_domains};
 
 // The justification of the value x of the variable i stands at 64 * i + x: a constraint and a time.
 #[derive(Drop)]
@@ -32,7 +32,7 @@ pub struct Constraints {
 }
 
 // A constraint seen from one of its ends, with the first of its rows on that side.
-#[derive(Clone, Copy)]
+#[derive(Clone, Copy, PartialEq, Eq, Debug)]
 pub struct Arc {
     pub constraint: usize,
     pub near: usize,
@@ -41,14 +41,14 @@ pub struct Arc {
 }
 
 // By which constraint a value is out, and since when.
-#[derive(Clone, Copy)]
+#[derive(Clone, Copy, PartialEq, Eq, Debug)]
 pub struct Justification {
     pub constraint: usize,
     pub time: u32,
 }
 
 // A value that came back, with the time of the justification that it had.
-#[derive(Clone, Copy)]
+#[derive(Clone, Copy, PartialEq, Eq, Debug)]
 pub struct Returning {
     pub variable: u8,
     pub value: u8,

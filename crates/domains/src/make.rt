@@ -38,18 +38,14 @@ pub fn capped(sizes: &[u8]) -> [u8; 32]
     ensures long { length result ≡ 32 }
     ensures sizes { (i : ℕ) → slice_index result i ≡ (if nat_lt i 32 then min 64 (slice_index sizes.now i) else 0) }
 {
+    let n = sizes.len().min(32);
     let mut all = [0; 32];
-    for i in 0..32 {
-        let size = if i < sizes.len() { sizes[i] } else { 0 };
-        all[i] = size.min(64);
-    }
-    all
-}
-
-fn no_sets() -> [u64; 32]
-    ensures { result ≡ replicate 32 0 }
-{
-    [0; 32]
+    all[..n].copy_from_slice(&sizes[..n]);
+    all.map(
+        |size: u8| -> u8
+            ensures { result ≡ min 64 size }
+        { size.min(64) },
+    )
 }
 
 // Every value below the sizes.
@@ -58,34 +54,9 @@ pub fn full(sizes: &[u8; 32]) -> [u64; 32]
     ensures wide { (i : ℕ) → slice_index result i < 2 ^ 64 }
     ensures shown { (i x : ℕ) → i < 32 → domains_of result i x ≡ (nat_lt x (slice_index sizes.now i) && nat_lt x 64) }
 {
-    let mut all = no_sets();
-    for i in 0..32 {
-        all[i] = bits::below(sizes[i] as usize);
-    }
-    all
-}
-
-// Which of the rows have the bit.
-fn column(rows: &[u64; 64], bit: usize) -> u64
-    ensures { (x : ℕ) → x < 64 → has_bit result x ≡ has_bit (slice_index rows.now x) bit }
-{
-    let mut all = 0;
-    for x in 0..64 {
-        if bits::has(rows[x], bit) {
-            all = bits::with(all, x);
-        }
-    }
-    all
-}
-
-// The same pairs from the other side: row y has bit x where row x has bit y.
-pub fn transposed(rows: &[u64; 64]) -> [u64; 64]
-    ensures long { length result ≡ 64 }
-    ensures turned { (x y : ℕ) → x < 64 → y < 64 → has_bit (slice_index result y) x ≡ has_bit (slice_index rows.now x) y }
-{
-    let mut all = [0; 64];
-    for y in 0..64 {
-        all[y] = column(rows, y);
-    }
-    all
+    sizes.map(
+        |size: u8| -> u64
+            ensures { (x : ℕ) → has_bit result x ≡ (nat_lt x size && nat_lt x 64) }
+        { bits::below(size as usize) },
+    )
 }

@@ -1,9 +1,9 @@
 -- What the tests before a call give, and what a call leaves.
-use Rattle.std.proofs.Common.{◌≡◌, ℕ, ◌^◌, ◌<◌, ◌≤◌, min, Bool, true, false, cond, not, ◌&&◌, eqb, ltb, List, length, get_or, replicate, Some, None, sym, refl, ap, ◌∙◌, subst, ⊎_elim, arith}
+use Rattle.std.proofs.Common.{◌≡◌, ℕ, ◌^◌, ◌<◌, ◌≤◌, min, Bool, true, false, cond, not, ◌&&◌, eqb, ltb, List, length, get_or, replicate, Some, None, Option, MatchOption, sym, refl, ap, ◌∙◌, subst, ⊎_elim, arith}
 use Rattle.std.proofs.lemmas.List.{get_or_past}
 use Rattle.std.proofs.lemmas.Bool.{and_from, and_parts, cases_lt, cond-true, eq-eqb, eqb-false, lt-ltb, ltb-false, ltb-true, not_from_false, not-true}
 use Rattle.arcs.specs.Family.{Inside}
-use Rattle.arcs.specs.WipedOut.{Empty, Shown}
+use Rattle.arcs.specs.WipedOut.{Shown, WipedOut}
 use Rattle.bits.specs.Bits.{bit_at, domains_of, has_bit}
 use Rattle.bits.proofs.Bitwise.{bit_of_zero, some_bit}
 use Rattle.domains.specs.declared.Constraints.{Constraints}
@@ -120,10 +120,17 @@ justified_by c d i x set j h e out is =
     ∙ sym (cond-true (within c i x && not (shown d i x)) _ None
     (and_from (within c i x) (not (shown d i x)) (lt-ltb x (get_or c.sizes i 0) h) (not_from_false (shown d i x) gone)))
 
-pub nothing_shown : (d : Domains) (i set : ℕ) → set ≡ get_or d.sets i 0 → set ≡ 0 → Empty (shown d) i
-nothing_shown d i set e z x = ap (λ n. has_bit n x) (sym e ∙ z) ∙ ap (λ n. eqb n 1) (bit_of_zero x)
+something_shown : (d : Domains) (i : ℕ) → get_or d.sets i 0 < 2 ^ 64 → (get_or d.sets i 0 ≡ 0 → ⊥) → Shown (shown d) i
+something_shown d i w nz =
+    let s : (x : ℕ) × (x < 64) × (bit_at (get_or d.sets i 0) x ≡ 1) = some_bit 64 (get_or d.sets i 0) w (omega arith) in
+    (s.0, eq-eqb (bit_at (get_or d.sets i 0) s.0) 1 s.2)
 
-pub something_shown : (d : Domains) (i set : ℕ) → set < 2 ^ 64 → set ≡ get_or d.sets i 0 → (set ≡ 0 → ⊥) → Shown (shown d) i
-something_shown d i set w e nz =
-    let s : (x : ℕ) × (x < 64) × (bit_at set x ≡ 1) = some_bit 64 set w (omega arith) in
-    (s.0, ap (λ n. has_bit n s.0) (sym e) ∙ eq-eqb (bit_at set s.0) 1 s.2)
+-- the first variable whose set is 0 is the wiped-out one
+pub wiped_by : (d : Domains) (n : ℕ) (r : Option ℕ) → ((i : ℕ) → get_or d.sets i 0 < 2 ^ 64) → MatchOption r ((k : ℕ) → 0 ≤ k → k < n → get_or d.sets k 0 ≡ 0 → ⊥) (λ i. (0 ≤ i) × (i < n) × (get_or d.sets i 0 ≡ 0) × ((k : ℕ) → 0 ≤ k → k < i → get_or d.sets k 0 ≡ 0 → ⊥)) → WipedOut (shown d) n r
+wiped_by d n None w h = λ j l. something_shown d j (w j) (h j (omega arith) l)
+wiped_by d n (Some i) w h =
+    record {
+      below = h.1;
+      empty = λ x. ap (λ s. has_bit s x) h.2 ∙ ap (λ b. eqb b 1) (bit_of_zero x);
+      before = λ j l. something_shown d j (w j) (h.3 j (omega arith) l);
+    }

@@ -1,5 +1,5 @@
 // A constraint goes in or out, and the domains follow.
-ghost use Rattle.std.specs.Prelude.{◌≡◌, ℕ, ◌+◌, ◌<◌, ◌≤◌, true, false, length, replicate, ◌≢◌, slice_index, slice_index_or};
+ghost use Rattle.std.specs.Prelude.{◌≡◌, ℕ, ◌+◌, ◌<◌, ◌≤◌, true, false, length, ◌≢◌, slice_index, slice_index_or};
 ghost use Rattle.arcs.specs.Family.{Inside};
 ghost use Rattle.justify.specs.Changes.{Released, Same};
 ghost use Rattle.justify.specs.Standing.{Out, Rests};
@@ -14,12 +14,6 @@ use crate::release::release;
 use domains::{Constraints, Domains, Returning};
 use queue::Queue;
 
-pub(crate) fn unmarked() -> [bool; 128]
-    ensures { result ≡ replicate 128 false }
-{
-    [false; 128]
-}
-
 // Puts the constraint in, and out what it leaves without support.
 pub(crate) fn put_in(c: &mut Constraints, d: &mut Domains, waiting: &mut [u8], constraint: usize)
     requires low { constraint < 128 }
@@ -33,7 +27,7 @@ pub(crate) fn put_in(c: &mut Constraints, d: &mut Domains, waiting: &mut [u8], c
     ensures past { Past 128 waiting.old waiting.new }
 {
     c.present[constraint] = true;
-    let mut marks = unmarked();
+    let mut marks = [false; 128];
     let mut q = Queue::new(waiting, 128);
     enqueue(&mut q, &mut marks, constraint);
     propagate(c, d, &mut q, &mut marks);
@@ -53,9 +47,9 @@ fn enqueue_changed(
     ensures kept { Kept q.old q.new }
     ensures waits { (i r : ℕ) → i < 32 → (slice_index after.now i ≢ slice_index before.now i) → (arcs_of c.now).on i r ≡ true → slice_index_or marks.new r false ≡ true }
 {
-    for i in 0..32 {
-        if after[i] != before[i] {
-            enqueue_at(c, q, marks, i, 128);
+    for (i, (old, new)) in before.iter().zip(after).enumerate() {
+        if new != old {
+            enqueue_at(c, q, marks, i, None);
         }
     }
 }
@@ -99,7 +93,7 @@ pub(crate) fn take_out(
     let before = d.sets;
     release_through(c, d, returning, constraint);
     c.present[constraint] = false;
-    let mut marks = unmarked();
+    let mut marks = [false; 128];
     let mut q = Queue::new(waiting, 128);
     enqueue_changed(c, &mut q, &mut marks, &before, &d.sets);
     propagate(c, d, &mut q, &mut marks);

@@ -1,5 +1,5 @@
 // The queue of constraints is emptied; afterwards each constraint that is in is consistent.
-ghost use Rattle.std.specs.Prelude.{◌≡◌, ℕ, ◌+◌, ◌^◌, ◌<◌, ◌≤◌, true, false, ◌≢◌, slice_index_or, slice_set};
+ghost use Rattle.std.specs.Prelude.{◌≡◌, ℕ, ◌+◌, ◌^◌, ◌<◌, ◌≤◌, true, false, ◌≢◌, Some, slice_index_or, slice_set};
 ghost use Rattle.arcs.specs.Family.{Consistent};
 ghost use Rattle.queue.specs.Waiting.{Kept};
 ghost use Rattle.domains.specs.Model.{arcs_of, shown, total};
@@ -42,20 +42,18 @@ pub(crate) fn enqueue_at(
     q: &mut Queue<'_, u8>,
     marks: &mut [bool; 128],
     variable: usize,
-    except: usize,
+    except: Option<usize>,
 )
     requires arrays { Arrays c.now }
     requires queued { Queued q.old marks.old }
     ensures queued { Queued q.new marks.new }
     ensures kept { Kept q.old q.new }
     ensures more { (p : ℕ) → slice_index_or marks.old p false ≡ true → slice_index_or marks.new p false ≡ true }
-    ensures waits { (p : ℕ) → (arcs_of c.now).on variable p ≡ true → (p ≢ except) → slice_index_or marks.new p false ≡ true }
+    ensures waits { (p : ℕ) → (arcs_of c.now).on variable p ≡ true → (Some p ≢ except) → slice_index_or marks.new p false ≡ true }
 {
     for p in 0..128 {
-        if p != except {
-            if ties(c, variable, p) {
-                enqueue(q, marks, p);
-            }
+        if Some(p) != except && ties(c, variable, p) {
+            enqueue(q, marks, p);
         }
     }
 }
@@ -81,7 +79,7 @@ pub(crate) fn settle(
     ensures idle { d.new.clock ≡ d.old.clock → q.new.len ≡ q.old.len }
 {
     if revise(c, d, arc) {
-        enqueue_at(c, q, marks, arc.near, arc.constraint);
+        enqueue_at(c, q, marks, arc.near, Some(arc.constraint));
     }
 }
 

@@ -3,38 +3,27 @@ ghost use Rattle.std.specs.Prelude.{◌≡◌, IfOk};
 ghost use Rattle.domains.specs.Stands.{Past};
 ghost use Rattle.network.specs.Requests.{call_of, calls_of};
 ghost use Rattle.network_law.specs.History.{Run};
-ghost use Rattle.network_model.specs.Performs.{Performs, answer_by, rooms_of};
+ghost use Rattle.network_model.specs.Performs.{Performs, rooms_of};
 
 use crate::network::Network;
 use catalog::Catalog;
 use domains::Returning;
-use network_law::{Answer, Change};
-use refusal::Refusal;
+use network_law::Answer;
 use std::alloc::{AllocError, Global};
 
 // A call on a network.
 #[derive(Clone, Copy)]
 pub enum Call<'a> {
-    // sizes, and a first time
-    Open(&'a [usize], u32),
+    // the sizes, and the first time
+    Open { sizes: &'a [usize], time: u32 },
     // a constraint
     Add(usize),
     Retract(usize),
     // a variable
     Domain(usize),
-    // a variable and a value
-    Shown(usize, usize),
-    Justification(usize, usize),
+    Shown { variable: usize, value: usize },
+    Justification { variable: usize, value: usize },
     WipedOut,
-}
-
-fn changed(outcome: Result<Change, Refusal>) -> Answer
-    ensures { result ≡ answer_by Answer.Changed outcome }
-{
-    match outcome {
-        Ok(change) => Answer::Changed(change),
-        Err(refusal) => Answer::Refused(refusal),
-    }
 }
 
 // One call on a network, with its answer.
@@ -50,24 +39,24 @@ fn answer<C: Catalog>(
     ensures past_returning { Past 2048 returning.old returning.new }
 {
     match call {
-        Call::Open(sizes, time) => match network.open(sizes, time) {
-            Ok(()) => Answer::Opened,
-            Err(refusal) => Answer::Refused(refusal),
-        },
-        Call::Add(constraint) => changed(network.add(constraint, waiting, returning)),
-        Call::Retract(constraint) => changed(network.retract(constraint, waiting, returning)),
-        Call::Domain(variable) => match network.domain(variable) {
-            Ok(domain) => Answer::Domain(domain),
-            Err(refusal) => Answer::Refused(refusal),
-        },
-        Call::Shown(variable, value) => match network.is_shown(variable, value) {
-            Ok(shown) => Answer::Shown(shown),
-            Err(refusal) => Answer::Refused(refusal),
-        },
-        Call::Justification(variable, value) => match network.justification(variable, value) {
-            Ok(justification) => Answer::Justified(justification),
-            Err(refusal) => Answer::Refused(refusal),
-        },
+        Call::Open { sizes, time } => network
+            .open(sizes, time)
+            .map_or_else(Answer::Refused, |()| Answer::Opened),
+        Call::Add(constraint) => network
+            .add(constraint, waiting, returning)
+            .map_or_else(Answer::Refused, Answer::Changed),
+        Call::Retract(constraint) => network
+            .retract(constraint, waiting, returning)
+            .map_or_else(Answer::Refused, Answer::Changed),
+        Call::Domain(variable) => network
+            .domain(variable)
+            .map_or_else(Answer::Refused, Answer::Domain),
+        Call::Shown { variable, value } => network
+            .is_shown(variable, value)
+            .map_or_else(Answer::Refused, Answer::Shown),
+        Call::Justification { variable, value } => network
+            .justification(variable, value)
+            .map_or_else(Answer::Refused, Answer::Justified),
         Call::WipedOut => Answer::Wiped(network.wiped_out()),
     }
 }

@@ -2,8 +2,6 @@
 #![tactic(auto)]
 
 mod calls;
-mod checks;
-mod knowing;
 mod network;
 
 pub use calls::{Call, perform};

@@ -2,6 +2,8 @@ use network_model::State;
 
 mod asking;
 mod changing;
+mod checks;
+mod knowing;
 mod making;
 
 // Variables, and the constraints of a catalog, some of which are in.

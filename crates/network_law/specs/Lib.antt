@@ -5,3 +5,4 @@ pub mod Counting
 pub mod Step
 pub mod History
 pub mod Theorems
+pub mod Text

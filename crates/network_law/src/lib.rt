@@ -1,20 +1,36 @@
 // What the calls on a network answer, and the law of every list of calls.
 #![tactic(auto)]
 
+ghost use Rattle.std.specs.Prelude.{Some};
+ghost use Rattle.network_law.specs.Text.{change_text};
 ghost use Rattle.network_law.specs.Theorems.{HistoriesJoin, HistoriesPart, HistoriesRight};
 
 use domains::Justification;
 use refusal::Refusal;
+use std::fmt;
 
 // What an accepted add or retract did: how many values it took away or brought back, and the wiped-out variable after it.
-#[derive(Clone, Copy)]
+#[derive(Clone, Copy, PartialEq, Eq, Debug)]
 pub struct Change {
     pub values: u32,
     pub wiped: Option<usize>,
 }
 
+// How many values, and the wiped-out variable or `-`.
+impl fmt::Display for Change {
+    ghost output = { λ c. Some (change_text c) };
+
+    fn fmt<W: fmt::Write>(&self, f: &mut fmt::Formatter<W>) -> fmt::Result {
+        let values = self.values;
+        match self.wiped {
+            Some(variable) => write!(f, "{values} {variable}"),
+            None => write!(f, "{values} -"),
+        }
+    }
+}
+
 // What a call answers.
-#[derive(Clone, Copy)]
+#[derive(Clone, Copy, PartialEq, Eq, Debug)]
 pub enum Answer {
     Opened,
     Changed(Change),

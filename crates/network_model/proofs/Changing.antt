@@ -1,5 +1,5 @@
 -- Adding and retracting, by what the code tests and the engine does.
-use Rattle.std.proofs.Common.{◌≡◌, ℕ, ◌<◌, Bool, true, false, not, eqb, ltb, List, length, get_or, Some, None, Ok, Err, Result, sym, refl, ap, ◌∙◌, subst, subst₂, arith, MatchResult}
+use Rattle.std.proofs.Common.{◌≡◌, ℕ, ◌<◌, Bool, true, false, not, eqb, ltb, List, length, get_or, Some, None, Ok, Err, Result, sym, refl, ap, ◌∙◌, subst, subst₂, arith, IfOk, MatchResult}
 use Rattle.std.proofs.lemmas.Bool.{and_from, both_ways, lt-ltb, ltb-true, not-false, ne_eqb, or_parts}
 use Rattle.arcs.specs.WipedOut.{WipedOut}
 use Rattle.catalog.specs.Meaning.{Meaning, Lawful}
@@ -95,18 +95,19 @@ module _ (m : Meaning) (lawful : Lawful m) (s : State) (p : ℕ) (waiting : List
 
     pub add_took
         : (s₁ : State) (r : Result Change Refusal) → None ≡ add_cause m s p (rooms_of waiting returning) → Learnt m p s s₁
-        → MatchResult r (λ v. Added s₁.engine.constraints s'.engine.constraints s₁.engine.domains s'.engine.domains p v.values × WipedOut (shown s'.engine.domains) s₁.variables v.wiped)
+        → MatchResult r (λ v. Added s₁.engine.constraints s'.engine.constraints s₁.engine.domains s'.engine.domains p v.values)
         (λ _. can_add s₁.engine.constraints s₁.engine.domains p (length waiting) ≡ false)
+        → IfOk r (λ v. WipedOut (shown s'.engine.domains) s₁.variables v.wiped)
         → s'.variables ≡ s₁.variables → s'.known ≡ s₁.known → Took m s (adds p (rooms_of waiting returning)) (answer_by Changed r) s'
-    add_took s₁ (Err e) none learnt cannot v k = absurd (both_ways (can_add s₁.engine.constraints s₁.engine.domains p (length waiting)) cannot (may_add s₁ none learnt))
-    add_took s₁ (Ok ch) none learnt did v k =
+    add_took s₁ (Err e) none learnt cannot wiped v k = absurd (both_ways (can_add s₁.engine.constraints s₁.engine.domains p (length waiting)) cannot (may_add s₁ none learnt))
+    add_took s₁ (Ok ch) none learnt did wiped v k =
         let c : Constraints = s.engine.constraints in
         let c₁ : Constraints = s₁.engine.constraints in
         let c' : Constraints = s'.engine.constraints in
         let d : Domains = s.engine.domains in
         let d' : Domains = s'.engine.domains in
         let same : s'.variables ≡ s.variables = v ∙ learnt.variables in
-        let after : Linked m s' = linked_after s₁ true learnt.linked learnt.known did.0.constraints v k in
+        let after : Linked m s' = linked_after s₁ true learnt.linked learnt.known did.constraints v k in
         let A : Domains → Type 0 = λ w. Added c₁ c' w d' p ch.values in
         let M : ℕ → Type 0 = λ w. Step m (moment_of s) (adds p (rooms_of waiting returning)) (Changed ch) (moment c' d' w) in
         record {
@@ -117,23 +118,24 @@ module _ (m : Meaning) (lawful : Lawful m) (s : State) (p : ℕ) (waiting : List
               (subst (λ w. Links m c' w s'.known) same after) learnt.sizes learnt.present
               (subst (λ w. p < w) (sym (stands_in s₁).shape.arrays.present) (omega (arith, (learnt.linked.means p learnt.known).is_one, lawful.few)))
               (stands_in s').shape.arrays.sizes (stands_in s).sound.sized (stands_in s').sound.sized
-              (subst (λ w. WipedOut (shown d') w ch.wiped) learnt.variables did.1)
-              (refusal-adds ∙ sym none) (subst A learnt.domains did.0));
+              (subst (λ w. WipedOut (shown d') w ch.wiped) learnt.variables wiped)
+              (refusal-adds ∙ sym none) (subst A learnt.domains did));
         }
 
     pub retract_took
         : (r : Result Change Refusal) → None ≡ retract_cause m s p (rooms_of waiting returning)
-        → MatchResult r (λ v. Retracted s.engine.constraints s'.engine.constraints s.engine.domains s'.engine.domains p v.values × WipedOut (shown s'.engine.domains) s.variables v.wiped)
+        → MatchResult r (λ v. Retracted s.engine.constraints s'.engine.constraints s.engine.domains s'.engine.domains p v.values)
         (λ _. can_retract s.engine.constraints s.engine.domains p (length waiting) (length returning) ≡ false)
+        → IfOk r (λ v. WipedOut (shown s'.engine.domains) s.variables v.wiped)
         → s'.variables ≡ s.variables → s'.known ≡ s.known → Took m s (retracts p (rooms_of waiting returning)) (answer_by Changed r) s'
-    retract_took (Err e) none cannot v k = absurd (both_ways (can_retract s.engine.constraints s.engine.domains p (length waiting) (length returning)) cannot (may_retract none))
-    retract_took (Ok ch) none did v k =
+    retract_took (Err e) none cannot wiped v k = absurd (both_ways (can_retract s.engine.constraints s.engine.domains p (length waiting) (length returning)) cannot (may_retract none))
+    retract_took (Ok ch) none did wiped v k =
         let c : Constraints = s.engine.constraints in
         let c' : Constraints = s'.engine.constraints in
         let d : Domains = s.engine.domains in
         let d' : Domains = s'.engine.domains in
         let known : get_or s.known p false ≡ true = linked.present p (in_is none) in
-        let after : Linked m s' = linked_after s false linked known did.0.constraints v k in
+        let after : Linked m s' = linked_after s false linked known did.constraints v k in
         let M : ℕ → Type 0 = λ w. Step m (moment_of s) (retracts p (rooms_of waiting returning)) (Changed ch) (moment c' d' w) in
         record {
           linked = after;
@@ -142,6 +144,6 @@ module _ (m : Meaning) (lawful : Lawful m) (s : State) (p : ℕ) (waiting : List
               (step_retract m lawful c c c' d d' s.variables s.known s'.known p ch.values (rooms_of waiting returning) ch.wiped linked
               (subst (λ w. Links m c' w s'.known) v after) refl refl
               (subst (λ w. p < w) (sym (stands_in s).shape.arrays.present) (omega (arith, (linked.means p known).is_one, lawful.few)))
-              (stands_in s').shape.arrays.sizes (stands_in s).sound.sized (stands_in s').sound.sized did.1
-              (sym none) refl (stands_in s).sound.justified did.0);
+              (stands_in s').shape.arrays.sizes (stands_in s).sound.sized (stands_in s').sound.sized wiped
+              (sym none) refl (stands_in s).sound.justified did);
         }

@@ -1,46 +1,19 @@
 -- What the check of sizes finds.
-use Rattle.std.proofs.Common.{◌≡◌, ℕ, zero, suc, ◌+◌, ◌<◌, ◌≤◌, Bool, true, false, cond, ◌&&◌, ltb, ◌⊎◌, List, [], ◌∷◌, length, get_or, drop, Some, None, Option, sym, refl, ◌∙◌, ⊎_elim, le_of_suc-le-suc, not-suc-le-zero, arith}
-use Rattle.std.proofs.lemmas.List.{at_drop_more, at_drop_all}
-use Rattle.std.proofs.lemmas.Bool.{and_parts, and_left, and_right, lt-ltb, le-ltb, ltb-true}
+use Rattle.std.proofs.Common.{◌≡◌, ℕ, zero, suc, ◌<◌, ◌≤◌, Bool, true, false, cond, ◌&&◌, ltb, List, [], ◌∷◌, length, get_or, Some, None, Option, refl, le_of_suc-le-suc, not-suc-le-zero, arith}
+use Rattle.std.proofs.lemmas.Bool.{and_parts, ltb-true}
 use Rattle.refusal.specs.declared.Refusal.{Refusal}
 use Rattle.refusal.specs.declared.Refusal.TheVariants.{VariableCount, DomainSize}
 use Rattle.refusal.specs.Causes.{first, sizes_fit, sizes_refusal}
 
--- one size more is looked at
-sizes_more : (xs : List ℕ) (i : ℕ) → i < length xs → sizes_fit (drop i xs) ≡ (ltb 0 (get_or xs i 0) && (ltb (get_or xs i 0) 65 && sizes_fit (drop (i + 1) xs)))
-sizes_more xs i h = at_drop_more sizes_fit xs i 0 h
-
-pub sizes_pass
-    : (xs : List ℕ) (i : ℕ) → i < length xs → 0 < get_or xs i 0 → get_or xs i 0 ≤ 64 → sizes_fit (drop i xs) ≡ sizes_fit xs
-    → sizes_fit (drop (i + 1) xs) ≡ sizes_fit xs
-sizes_pass xs i h low high e =
-    let f : (ltb 0 (get_or xs i 0) && (ltb (get_or xs i 0) 65 && sizes_fit (drop (i + 1) xs))) ≡ sizes_fit xs = sym (sizes_more xs i h) ∙ e in
-    let a : ltb 0 (get_or xs i 0) ≡ true = lt-ltb 0 (get_or xs i 0) low in
-    let b : ltb (get_or xs i 0) 65 ≡ true = lt-ltb (get_or xs i 0) 65 (omega arith) in
-    rw (a, b) at f
-
-pub sizes_stop
-    : (xs : List ℕ) (i : ℕ) → i < length xs → (get_or xs i 0 ≡ 0) ⊎ (64 < get_or xs i 0) → sizes_fit (drop i xs) ≡ sizes_fit xs → false ≡ sizes_fit xs
-sizes_stop xs i h why e =
-    sym (sym e ∙ sizes_more xs i h
-    ∙ ⊎_elim (λ z. and_left _ _ (le-ltb 0 (get_or xs i 0) (omega arith)))
-    (λ big. and_right _ _ (and_left _ _ (le-ltb (get_or xs i 0) 65 (omega arith)))) why)
-
-pub sizes_end : (xs : List ℕ) (i : ℕ) → length xs ≤ i → sizes_fit (drop i xs) ≡ sizes_fit xs → true ≡ sizes_fit xs
-sizes_end xs i h e = sym (at_drop_all sizes_fit xs i h) ∙ e
-
--- ---- what is known where the sizes are accepted
+-- what is known where the sizes are accepted
 
 size_fits : (xs : List ℕ) → sizes_fit xs ≡ true → (i : ℕ) → i < length xs → (0 < get_or xs i 0) × (get_or xs i 0 ≤ 64)
 size_fits [] e i h = absurd (not-suc-le-zero h)
 size_fits (x ∷ xs) e zero h =
-    let p = and_parts (ltb 0 x) (ltb x 65 && sizes_fit xs) e in
-    let q = and_parts (ltb x 65) (sizes_fit xs) p.1 in
-    (ltb-true 0 x p.0, omega (arith, ltb-true x 65 q.0))
-size_fits (x ∷ xs) e (suc i) h =
-    let p = and_parts (ltb 0 x) (ltb x 65 && sizes_fit xs) e in
-    let q = and_parts (ltb x 65) (sizes_fit xs) p.1 in
-    size_fits xs q.1 i (le_of_suc-le-suc h)
+    let p = and_parts (ltb 0 x && ltb x 65) (sizes_fit xs) e in
+    let q = and_parts (ltb 0 x) (ltb x 65) p.0 in
+    (ltb-true 0 x q.0, omega (arith, ltb-true x 65 q.1))
+size_fits (x ∷ xs) e (suc i) h = size_fits xs (and_parts (ltb 0 x && ltb x 65) (sizes_fit xs) e).1 i (le_of_suc-le-suc h)
 
 -- from 1 to 32 sizes, each from 1 to 64
 pub record Fitting (sizes : List ℕ) : Type 0 where

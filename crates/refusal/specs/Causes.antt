@@ -1,5 +1,6 @@
 -- Which causes hold: of the sizes of the variables, and of one constraint.
-use Rattle.std.specs.Prelude.{ℕ, Bool, true, cond, ◌&&◌, List, [], ◌∷◌, length, Some, None, Option, nat_lt}
+use Rattle.std.specs.Prelude.{ℕ, Bool, cond, ◌&&◌, List, length, Some, None, Option, nat_lt}
+use Rattle.std.specs.List.{list_all}
 use Rattle.catalog.specs.Meaning.{Meaning}
 use Rattle.refusal.specs.declared.Refusal.{Refusal}
 use Rattle.refusal.specs.declared.Refusal.TheVariants.{VariableCount, DomainSize, NoSuchConstraint, EndOutside}
@@ -11,8 +12,7 @@ first None later = later
 
 -- each size is from 1 to 64
 abbrev pub sizes_fit : List ℕ → Bool
-sizes_fit [] = true
-sizes_fit (s ∷ ss) = nat_lt 0 s && (nat_lt s 65 && sizes_fit ss)
+sizes_fit sizes = list_all (λ s. nat_lt 0 s && nat_lt s 65) sizes
 
 -- the sizes: from 1 to 32 of them, each from 1 to 64
 abbrev pub sizes_refusal : List ℕ → Option Refusal

@@ -1,2 +1,3 @@
 pub mod Number
 pub mod Causes
+pub mod Text

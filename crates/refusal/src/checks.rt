@@ -11,19 +11,14 @@ use catalog::Catalog;
 fn sizes_fit(sizes: &[usize]) -> bool
     ensures { result ≡ sizes_fit sizes.now }
 {
-    for s in sizes {
-        if *s == 0 || *s > 64 {
-            return false;
-        }
-    }
-    true
+    sizes.iter().all(|s| (1..=64).contains(s))
 }
 
 // Are these sizes of variables: from 1 to 32 of them, each from 1 to 64?
 pub fn check_sizes(sizes: &[usize]) -> Result<(), Refusal>
     ensures { result_err result ≡ sizes_refusal sizes.now }
 {
-    if sizes.len() == 0 || sizes.len() > 32 {
+    if sizes.is_empty() || sizes.len() > 32 {
         Err(Refusal::VariableCount)
     } else if sizes_fit(sizes) {
         Ok(())

@@ -1,33 +1,36 @@
 // Why a call is refused.
 #![tactic(auto)]
 
-ghost use Rattle.std.specs.Prelude.{◌≡◌};
+ghost use Rattle.std.specs.Prelude.{◌≡◌, Some};
 ghost use Rattle.refusal.specs.Number.{number_of};
+ghost use Rattle.refusal.specs.Text.{refusal_text};
+
+use std::fmt;
 
 pub mod checks;
 
 #[derive(Clone, Copy, PartialEq, Eq, Debug)]
 pub enum Refusal {
     // no variable, or more than 32
-    VariableCount,
+    VariableCount = 1,
     // a variable with no value, or with more than 64
-    DomainSize,
+    DomainSize = 2,
     // an index that is not below the catalog's count
-    NoSuchConstraint,
+    NoSuchConstraint = 3,
     // an end that is not one of the variables
-    EndOutside,
+    EndOutside = 4,
     // to be added, and already in
-    AlreadyIn,
+    AlreadyIn = 5,
     // to be retracted, and not in
-    NotIn,
+    NotIn = 6,
     // a lent buffer that is too short
-    ShortBuffer,
+    ShortBuffer = 7,
     // a clock that is too far on
-    ClockSpent,
+    ClockSpent = 8,
     // a question about a variable or a value that is not there
-    NoSuchValue,
+    NoSuchValue = 9,
     // a result list with fewer entries than there are variables
-    ShortResult,
+    ShortResult = 10,
 }
 
 impl Refusal {
@@ -35,17 +38,15 @@ impl Refusal {
     pub fn number(self) -> u8
         ensures { result ≡ number_of self }
     {
-        match self {
-            Refusal::VariableCount => 1,
-            Refusal::DomainSize => 2,
-            Refusal::NoSuchConstraint => 3,
-            Refusal::EndOutside => 4,
-            Refusal::AlreadyIn => 5,
-            Refusal::NotIn => 6,
-            Refusal::ShortBuffer => 7,
-            Refusal::ClockSpent => 8,
-            Refusal::NoSuchValue => 9,
-            Refusal::ShortResult => 10,
-        }
+        self as u8
+    }
+}
+
+impl fmt::Display for Refusal {
+    ghost output = { λ e. Some (refusal_text e) };
+
+    fn fmt<W: fmt::Write>(&self, f: &mut fmt::Formatter<W>) -> fmt::Result {
+        let number = self.number();
+        write!(f, "no {number}")
     }
 }

@@ -10,20 +10,21 @@ use sheet_moves::MovesFault;
 use std::alloc::AllocError;
 
 // A refused move: how many moves came before it, and why it was refused.
-#[derive(Clone, Copy)]
+#[derive(Clone, Copy, PartialEq, Eq, Debug)]
 pub struct MoveFault {
     pub before: usize,
     pub refusal: Refusal,
 }
 
 // What can go wrong in a run: the sheet is refused, which ends it; a move is refused, which does not; memory is wanting.
-#[derive(Clone, Copy)]
+#[derive(Clone, Copy, PartialEq, Eq, Debug)]
 pub enum RunFault {
     Sheet(SheetFault),
     Move(MoveFault),
     Memory,
 }
 
+// The conversions are written out: a derived one has no contract, and `run_sheet`'s says which fault a `?` makes.
 impl From<MovesFault> for RunFault {
     ghost from_gives = { λ x y. y ≡ from_moves x };
 

@@ -54,7 +54,7 @@ pub fn calls_for<'a>(
     ensures { IfOk result (λ v. (rooms : Rooms) → calls_of rooms v.items ≡ calls_for rooms sizes.now moves.now) }
 {
     let mut calls = Vec::new(heap);
-    add_call(&mut calls, Call::Open(sizes, 0))?;
+    add_call(&mut calls, Call::Open { sizes, time: 0 })?;
     add_moves(&mut calls, moves)?;
     add_questions(&mut calls, sizes.len())?;
     Ok(calls)

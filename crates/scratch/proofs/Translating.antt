@@ -1,5 +1,5 @@
 -- The arcs that are kept ask what the constraints named ask.
-use Rattle.std.proofs.Common.{◌≡◌, ℕ, ◌+◌, ◌*◌, ◌/◌, ◌<◌, Bool, true, ◌&&◌, ◌||◌, eqb, ltb, ◌⊎◌, List, ◌++◌, length, get_or, take, drop, None, sym, ◌∙◌, subst, inl, inr, ⊎_elim, arith}
+use Rattle.std.proofs.Common.{◌≡◌, ℕ, ◌+◌, ◌*◌, ◌/◌, ◌<◌, Bool, true, ◌&&◌, ◌||◌, eqb, ltb, ◌⊎◌, List, ◌++◌, length, get_or, take, drop, None, Option, sym, ◌∙◌, subst, inl, inr, ⊎_elim, arith}
 use Rattle.std.proofs.lemmas.List.{take_at}
 use Rattle.std.proofs.lemmas.Slice.{drop-append-drop}
 use Rattle.std.proofs.lemmas.Bool.{and_parts, and_from, both_ways, cases_Bool, cases_eq, cond-true, cond-false, eq-eqb, eqb-true, ne_eqb, lt-ltb, ltb-true, or_cases, or_left, or_right}
@@ -14,18 +14,18 @@ use Rattle.scratch.specs.declared.arc.Arc.{Arc}
 use Rattle.scratch.specs.Filled.{Holds, Filled}
 use Rattle.scratch.specs.Named.{named}
 use Rattle.scratch.specs.Refused.{indices_refusal}
-use Rattle.scratch.specs.Rows.{off_arc, arcs_of_rows}
+use Rattle.scratch.specs.Rows.{on_at, arc_at, arcs_of_rows}
 use Rattle.scratch.specs.Settling.{Placed}
 use Rattle.scratch.specs.Written.{Written}
 use Rattle.scratch.proofs.Accepting.{Between, named_between}
 
 -- what a reason of `a` asks is asked by an arc that holds it
 asked_by_arc
-    : (a : Arcs) (sizes : List ℕ) (ks : List Arc) (i r k near far : ℕ) (fits : ℕ → ℕ → Bool) → Holds sizes near far fits (get_or ks k off_arc) → near ≡ i
+    : (a : Arcs) (sizes : List ℕ) (ks : List (Option Arc)) (i r k near far : ℕ) (fits : ℕ → ℕ → Bool) → Holds sizes near far fits (get_or ks k None) → near ≡ i
     → a.far i r ≡ far → ((x y : ℕ) → a.fits i r x y ≡ fits x y) → Asked (within_sizes sizes) a (arcs_of_rows ks) i r
 asked_by_arc a sizes ks i r k near far fits holds e e' f = record {
   reason = k;
-  on = and_from _ _ holds.on (eq-eqb (get_or ks k off_arc).near i (holds.at_near ∙ e));
+  on = and_from _ _ holds.on (eq-eqb (arc_at ks k).near i (holds.at_near ∙ e));
   far = holds.at_far ∙ sym e';
   fits =
       λ x y bx by h.
@@ -38,7 +38,7 @@ asked_by_arc a sizes ks i r k near far fits holds e e' f = record {
 
 -- and what an arc asks is asked by the reason that it holds
 asked_of_arc
-    : (a : Arcs) (sizes : List ℕ) (ks : List Arc) (i r k near far : ℕ) (fits : ℕ → ℕ → Bool) → Holds sizes near far fits (get_or ks k off_arc) → near ≡ i
+    : (a : Arcs) (sizes : List ℕ) (ks : List (Option Arc)) (i r k near far : ℕ) (fits : ℕ → ℕ → Bool) → Holds sizes near far fits (get_or ks k None) → near ≡ i
     → a.on i r ≡ true → a.far i r ≡ far → ((x y : ℕ) → a.fits i r x y ≡ fits x y) → Asked (within_sizes sizes) (arcs_of_rows ks) a i k
 asked_of_arc a sizes ks i r k near far fits holds e on e' f = record {
   reason = r;
@@ -51,31 +51,31 @@ asked_of_arc a sizes ks i r k near far fits holds e on e' f = record {
       ∙ sym (f x y) ∙ h;
 }
 
-module _ (m : Meaning) (lawful : Lawful m) (sizes ps : List ℕ) (ks : List Arc)
+module _ (m : Meaning) (lawful : Lawful m) (sizes ps : List ℕ) (ks : List (Option Arc))
     (accepted : indices_refusal m (length sizes) ps ≡ None) (filled : Filled m sizes (named ps) ks) where
   There : ℕ → ℕ → Type 0
-  There k p = Holds sizes (m.left p) (m.right p) (allowed m p) (get_or ks k off_arc)
+  There k p = Holds sizes (m.left p) (m.right p) (allowed m p) (get_or ks k None)
 
   Back : ℕ → ℕ → Type 0
-  Back k p = Holds sizes (m.right p) (m.left p) (λ y x. allowed m p x y) (get_or ks k off_arc)
+  Back k p = Holds sizes (m.right p) (m.left p) (λ y x. allowed m p x y) (get_or ks k None)
 
   between : (p : ℕ) → named ps p ≡ true → Between m (length sizes) p
   between = named_between m (length sizes) ps accepted
 
   -- an arc that is on is one way of a constraint that is named
-  one_way : (k : ℕ) → (get_or ks k off_arc).on ≡ true → (p : ℕ) × (named ps p ≡ true) × (There k p ⊎ Back k p)
+  one_way : (k : ℕ) → on_at ks k ≡ true → (p : ℕ) × (named ps p ≡ true) × (There k p ⊎ Back k p)
   unfolding There Back
   one_way k on =
       ⊎_elim
       (λ e.
-      let on' : (get_or ks (2 * (k / 2)) off_arc).on ≡ true = subst (λ j. (get_or ks j off_arc).on ≡ true) e on in
+      let on' : on_at ks (2 * (k / 2)) ≡ true = subst (λ j. on_at ks j ≡ true) e on in
       let n : named ps (k / 2) ≡ true = ⊎_elim (λ t. t) (λ f. absurd (both_ways _ (filled.free (k / 2) f).there on')) (cases_Bool (named ps (k / 2))) in
-      (k / 2, n, inl (subst (λ j. Holds sizes (m.left (k / 2)) (m.right (k / 2)) (allowed m (k / 2)) (get_or ks j off_arc)) (sym e) (filled.kept (k / 2) n).there)))
+      (k / 2, n, inl (subst (λ j. Holds sizes (m.left (k / 2)) (m.right (k / 2)) (allowed m (k / 2)) (get_or ks j None)) (sym e) (filled.kept (k / 2) n).there)))
       (λ ne.
       let e : k ≡ 2 * (k / 2) + 1 = omega arith in
-      let on' : (get_or ks (2 * (k / 2) + 1) off_arc).on ≡ true = subst (λ j. (get_or ks j off_arc).on ≡ true) e on in
+      let on' : on_at ks (2 * (k / 2) + 1) ≡ true = subst (λ j. on_at ks j ≡ true) e on in
       let n : named ps (k / 2) ≡ true = ⊎_elim (λ t. t) (λ f. absurd (both_ways _ (filled.free (k / 2) f).back on')) (cases_Bool (named ps (k / 2))) in
-      (k / 2, n, inr (subst (λ j. Holds sizes (m.right (k / 2)) (m.left (k / 2)) (λ y x. allowed m (k / 2) x y) (get_or ks j off_arc)) (sym e) (filled.kept (k / 2) n).back)))
+      (k / 2, n, inr (subst (λ j. Holds sizes (m.right (k / 2)) (m.left (k / 2)) (λ y x. allowed m (k / 2) x y) (get_or ks j None)) (sym e) (filled.kept (k / 2) n).back)))
       (cases_eq k (2 * (k / 2)))
 
   -- each arc that is on lies between two of the variables
@@ -116,8 +116,8 @@ module _ (m : Meaning) (lawful : Lawful m) (sizes ps : List ℕ) (ks : List Arc)
   covers_back : Covers (within_sizes sizes) (arcs_of_rows ks) (arcs_of m (named ps))
   unfolding There Back
   covers_back i k on =
-      let t = and_parts (get_or ks k off_arc).on (eqb (get_or ks k off_arc).near i) on in
-      let near : (get_or ks k off_arc).near ≡ i = eqb-true (get_or ks k off_arc).near i t.1 in
+      let t = and_parts (on_at ks k) (eqb (arc_at ks k).near i) on in
+      let near : (arc_at ks k).near ≡ i = eqb-true (arc_at ks k).near i t.1 in
       let w = one_way k t.0 in
       let p : ℕ = w.0 in
       let b = between p w.1 in

@@ -1,15 +1,15 @@
 -- What the steps on the way to the largest domains do.
-use Rattle.std.specs.Prelude.{◌≡◌, ℕ, ◌^◌, ◌<◌, ◌≤◌, Bool, true, false, ◌&&◌, ◌⊎◌, List, sum, bit_and, nat_lt, slice_index, slice_index_or, slice_set}
+use Rattle.std.specs.Prelude.{◌≡◌, ℕ, ◌^◌, ◌<◌, ◌≤◌, Bool, true, false, ◌&&◌, ◌⊎◌, List, Option, sum, bit_and, nat_lt, slice_index, slice_set}
 use Rattle.arcs.specs.Arcs.{Arcs}
 use Rattle.arcs.specs.Family.{Family, Support}
 use Rattle.arcs.specs.Around.{Around}
 use Rattle.bits.specs.Bits.{has_bit, domains_of}
 use Rattle.scratch.specs.declared.arc.Arc.{Arc}
-use Rattle.scratch.specs.Rows.{off_arc, arcs_of_rows}
+use Rattle.scratch.specs.Rows.{on_at, arc_at, arcs_of_rows}
 
 -- each arc that is on lies between two of the first n variables
-abbrev pub Placed : List Arc → ℕ → Type 0
-Placed ks n = (k : ℕ) → (slice_index_or ks k off_arc).on ≡ true → ((slice_index_or ks k off_arc).near < n) × ((slice_index_or ks k off_arc).far < n)
+abbrev pub Placed : List (Option Arc) → ℕ → Type 0
+Placed ks n = (k : ℕ) → on_at ks k ≡ true → ((arc_at ks k).near < n) × ((arc_at ks k).far < n)
 
 -- the values of `near` that have a support in `far`
 abbrev pub stays : Arc → ℕ → ℕ → ℕ → Bool
@@ -33,7 +33,7 @@ abbrev pub Waits : Arcs → ℕ → Family → Type 0
 Waits a stale f = (i k : ℕ) → a.on i k ≡ true → has_bit stale (a.far i k) ≡ false → Settled a f i k
 
 -- The arcs below `upto` have been revised where their far variable was in `stale`; the variables that lost values are in `next`.
-pub record Swept (ks : List Arc) (stale upto : ℕ) (before after : List ℕ) (next : ℕ) : Type 0 where
+pub record Swept (ks : List (Option Arc)) (stale upto : ℕ) (before after : List ℕ) (next : ℕ) : Type 0 where
   pub around : (b : Family) → Around (arcs_of_rows ks) b (domains_of before) → Around (arcs_of_rows ks) b (domains_of after)
   pub settled
       : Waits (arcs_of_rows ks) stale (domains_of before) → (i k : ℕ) → (arcs_of_rows ks).on i k ≡ true

@@ -4,7 +4,6 @@ ghost use Rattle.std.specs.Prelude.{◌≡◌, length};
 // Entry x of `rows` is the set of the values of `far` that may stand beside the value x of `near`.
 #[derive(Clone, Copy)]
 pub struct Arc {
-    pub on: bool,
     pub near: usize,
     pub far: usize,
     pub rows: [u64; 64],

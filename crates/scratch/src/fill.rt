@@ -1,164 +1,60 @@
 // The constraints named, asked of the catalog once for each pair of values and kept as arcs.
-ghost use Rattle.std.specs.Prelude.{◌≡◌, ℕ, ◌<◌, ◌≤◌, false, length, replicate, Some, None, slice_index, slice_index_or};
+ghost use Rattle.std.specs.Prelude.{◌≡◌, ℕ, length, None};
 ghost use Rattle.arcs.specs.Family.{within_sizes};
-ghost use Rattle.bits.specs.Bits.{domains_of, has_bit};
-ghost use Rattle.catalog.specs.Meaning.{allowed, ends_of};
+ghost use Rattle.bits.specs.Bits.{domains_of};
 ghost use Rattle.refusal.specs.Causes.{constraint_refusal};
-ghost use Rattle.scratch.specs.Filled.{Adds, Filled, Holds, Turned};
+ghost use Rattle.scratch.specs.Filled.{Adds, Filled, Turned};
 ghost use Rattle.scratch.specs.Named.{named};
 ghost use Rattle.scratch.specs.Refused.{indices_refusal};
-ghost use Rattle.scratch.specs.Rows.{Bounded, off_arc};
+ghost use Rattle.scratch.specs.Rows.{Bounded};
 
 use crate::arc::Arc;
 use catalog::Catalog;
-
-// 64 empty rows.
-fn no_rows() -> [u64; 64]
-    ensures { result ≡ replicate 64 0 }
-{
-    [0; 64]
-}
-
-// An arc that is off.
-fn off() -> Arc
-    ensures { result.on ≡ false }
-{
-    Arc {
-        on: false,
-        near: 0,
-        far: 0,
-        rows: no_rows(),
-    }
-}
-
-// 256 arcs that are off.
-pub(crate) fn no_arcs() -> [Arc; 256]
-    ensures len { length result ≡ 256 }
-    ensures off { (k : ℕ) → (slice_index_or result k off_arc).on ≡ false }
-{
-    [off(); 256]
-}
-
-// The values of the right end below `size` that the constraint `p` allows beside the value `x` of the left end.
-fn row<C: Catalog>(catalog: &C, p: usize, x: usize, size: usize) -> u64
-    requires { size ≤ 64 }
-    ensures { (y : ℕ) → y < size → has_bit result y ≡ allowed (C.Catalog.meaning catalog.now) p x y }
-{
-    let mut row = 0;
-    for y in 0..size {
-        if catalog.allows(p, x, y) {
-            row = bits::with(row, y);
-        }
-    }
-    row
-}
-
-// The rows of the constraint `p`, for values of its ends below these sizes.
-fn rows<C: Catalog>(catalog: &C, p: usize, left_size: usize, right_size: usize) -> [u64; 64]
-    requires left { left_size ≤ 64 }
-    requires right { right_size ≤ 64 }
-    ensures { (x y : ℕ) → x < left_size → y < right_size → has_bit (slice_index result x) y ≡ allowed (C.Catalog.meaning catalog.now) p x y }
-{
-    let mut rows = no_rows();
-    for x in 0..left_size {
-        rows[x] = row(catalog, p, x, right_size);
-    }
-    rows
-}
-
-// The rows that have the value `y`.
-fn column(rows: &[u64; 64], y: usize) -> u64
-    ensures { (x : ℕ) → x < 64 → has_bit result x ≡ has_bit (slice_index rows.now x) y }
-{
-    let mut column = 0;
-    for x in 0..64 {
-        if bits::has(rows[x], y) {
-            column = bits::with(column, x);
-        }
-    }
-    column
-}
-
-// The same pairs, seen from the other end.
-fn columns(rows: &[u64; 64]) -> [u64; 64]
-    ensures { (x y : ℕ) → x < 64 → y < 64 → has_bit (slice_index result y) x ≡ has_bit (slice_index rows.now x) y }
-{
-    let mut columns = no_rows();
-    for y in 0..64 {
-        columns[y] = column(rows, y);
-    }
-    columns
-}
-
-// The constraint `p` seen from its left end `a`, with the right end `b`.
-fn from_left<C: Catalog>(catalog: &C, sizes: &[usize], p: usize, a: usize, b: usize) -> Arc
-    requires left { a < length sizes.now }
-    requires right { b < length sizes.now }
-    requires bounded { Bounded sizes.now }
-    ensures { Holds sizes.now a b (allowed (C.Catalog.meaning catalog.now) p) result }
-{
-    let rows = rows(catalog, p, sizes[a], sizes[b]);
-    Arc {
-        on: true,
-        near: a,
-        far: b,
-        rows,
-    }
-}
 
 // The same constraint seen from its other end.
 fn turned(arc: &Arc) -> Arc
     ensures { Turned arc.now result }
 {
-    let rows = columns(&arc.rows);
     Arc {
-        on: arc.on,
         near: arc.far,
         far: arc.near,
-        rows,
+        rows: supports::turned(&arc.rows),
     }
 }
 
-// Keeps the constraint `p`, between the variables `a` and `b`, both ways.
-fn put<C: Catalog>(catalog: &C, sizes: &[usize], p: usize, a: usize, b: usize, arcs: &mut [Arc])
-    requires ends { Some (a, b) ≡ ends_of (C.Catalog.meaning catalog.now) p }
-    requires left { a < length sizes.now }
-    requires right { b < length sizes.now }
-    requires bounded { Bounded sizes.now }
-    requires low { p < 128 }
-    requires len { length arcs.old ≡ 256 }
+// Keeps the constraint `p` both ways, unless it is kept already.
+fn keep<C: Catalog>(catalog: &C, sizes: &[usize], p: usize, arcs: &mut [Option<Arc>; 256])
+    requires { constraint_refusal (C.Catalog.meaning catalog.now) (length sizes.now) p ≡ None }
     ensures { Adds (C.Catalog.meaning catalog.now) sizes.now p arcs.old arcs.new }
 {
-    let there = from_left(catalog, sizes, p, a, b);
-    arcs[2 * p] = there;
-    arcs[2 * p + 1] = turned(&there);
-}
-
-// Keeps the constraint `p`, unless it is kept already.
-fn keep<C: Catalog>(catalog: &C, sizes: &[usize], p: usize, arcs: &mut [Arc])
-    requires accepted { constraint_refusal (C.Catalog.meaning catalog.now) (length sizes.now) p ≡ None }
-    requires bounded { Bounded sizes.now }
-    requires len { length arcs.old ≡ 256 }
-    ensures { Adds (C.Catalog.meaning catalog.now) sizes.now p arcs.old arcs.new }
-{
+    if arcs[2 * p].is_some() {
+        return;
+    }
     if let Some((a, b)) = catalog.ends(p) {
-        if !arcs[2 * p].on {
-            put(catalog, sizes, p, a, b, arcs);
-        }
+        let there = Arc {
+            near: a,
+            far: b,
+            rows: supports::rows(catalog, p, sizes[a], sizes[b]),
+        };
+        arcs[2 * p] = Some(there);
+        arcs[2 * p + 1] = Some(turned(&there));
     }
 }
 
-// Keeps each constraint that `indices` names.
-pub(crate) fn fill<C: Catalog>(catalog: &C, sizes: &[usize], indices: &[usize], arcs: &mut [Arc])
-    requires accepted { indices_refusal (C.Catalog.meaning catalog.now) (length sizes.now) indices.now ≡ None }
-    requires bounded { Bounded sizes.now }
-    requires len { length arcs.old ≡ 256 }
-    requires off { (k : ℕ) → (slice_index_or arcs.old k off_arc).on ≡ false }
-    ensures { Filled (C.Catalog.meaning catalog.now) sizes.now (named indices.now) arcs.new }
+// Each constraint that `indices` names, kept both ways.
+pub(crate) fn fill<C: Catalog>(
+    catalog: &C,
+    sizes: &[usize],
+    indices: &[usize],
+) -> [Option<Arc>; 256]
+    requires { indices_refusal (C.Catalog.meaning catalog.now) (length sizes.now) indices.now ≡ None }
+    ensures { Filled (C.Catalog.meaning catalog.now) sizes.now (named indices.now) result }
 {
+    let mut arcs = [None; 256];
     for p in indices {
-        keep(catalog, sizes, *p, arcs);
+        keep(catalog, sizes, *p, &mut arcs);
     }
+    arcs
 }
 
 // Every value of every variable.
@@ -167,7 +63,7 @@ pub(crate) fn whole(sizes: &[usize], domains: &mut [u64])
     requires bounded { Bounded sizes.now }
     ensures { (i x : ℕ) → domains_of domains.new i x ≡ within_sizes sizes.now i x }
 {
-    for i in 0..sizes.len() {
-        domains[i] = bits::below(sizes[i]);
+    for (i, domain) in domains.iter_mut().enumerate() {
+        *domain = bits::below(sizes[i]);
     }
 }

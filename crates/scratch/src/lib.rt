@@ -19,8 +19,7 @@ fn write<C: Catalog>(catalog: &C, sizes: &[usize], indices: &[usize], out: &mut 
     requires { None ≡ refusal (C.Catalog.meaning catalog.now) sizes.now indices.now (length out.old) }
     ensures { Written (C.Catalog.meaning catalog.now) sizes.now indices.now out.old out.new }
 {
-    let mut arcs = fill::no_arcs();
-    fill::fill(catalog, sizes, indices, &mut arcs);
+    let arcs = fill::fill(catalog, sizes, indices);
     let domains = &mut out[0..sizes.len()];
     fill::whole(sizes, domains);
     settle::settle(&arcs, domains);

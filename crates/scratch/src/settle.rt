@@ -12,8 +12,8 @@ fn supported(arc: &Arc, near: u64, far: u64) -> u64
     ensures { (x : ℕ) → has_bit result x ≡ stays arc.now near far x }
 {
     let mut stay = near;
-    for x in 0..64 {
-        if arc.rows[x] & far == 0 {
+    for (x, row) in arc.rows.iter().enumerate() {
+        if *row & far == 0 {
             stay = bits::without(stay, x);
         }
     }
@@ -41,23 +41,25 @@ fn revise(arc: &Arc, domains: &mut [u64]) -> bool
     stay != before
 }
 
-// Revises each arc whose far variable is in `stale`, and gives the set of the variables that lost values.
-fn pass(arcs: &[Arc], stale: u64, domains: &mut [u64]) -> u64
+// Revises each arc that is kept and whose far variable is in `stale`, and gives the set of the variables that lost values.
+fn pass(arcs: &[Option<Arc>], stale: u64, domains: &mut [u64]) -> u64
     requires placed { Placed arcs.now (length domains.old) }
     requires few { length domains.old ≤ 64 }
     ensures { Swept arcs.now stale (length arcs.now) domains.old domains.new result }
 {
     let mut next = 0;
-    for arc in arcs {
-        if arc.on && bits::has(stale, arc.far) && revise(arc, domains) {
-            next = bits::with(next, arc.near);
+    for place in arcs {
+        if let Some(arc) = place {
+            if bits::has(stale, arc.far) && revise(arc, domains) {
+                next = bits::with(next, arc.near);
+            }
         }
     }
     next
 }
 
 // Puts values out until each one has a support under every arc.
-pub(crate) fn settle(arcs: &[Arc], domains: &mut [u64])
+pub(crate) fn settle(arcs: &[Option<Arc>], domains: &mut [u64])
     requires placed { Placed arcs.now (length domains.old) }
     requires few { length domains.old ≤ 64 }
     ensures { Largest (arcs_of_rows arcs.now) (domains_of domains.old) (domains_of domains.new) }

@@ -1,4 +1,5 @@
 pub mod Faults
+pub mod Kinds
 pub mod Numbers
 pub mod Value
 pub mod Encoding
@@ -6,3 +7,4 @@ pub mod Reading
 pub mod Verdict
 pub mod Decoding
 pub mod Law
+pub mod Lines

@@ -1,10 +1,13 @@
 // What can be wrong with a sheet, and at which byte.
-ghost use Rattle.std.specs.Prelude.{◌≡◌};
+ghost use Rattle.std.specs.Prelude.{◌≡◌, Some};
 ghost use Rattle.sheet_format.specs.Faults.{cause_number, record_number, fault_number, fault_byte, fault_records, counted_result};
+ghost use Rattle.sheet_format.specs.Lines.{fault_line};
 ghost use Rattle.sheet_format.specs.declared.faults.SheetFault.TheVariants.{Record, Format};
 
+use std::fmt;
+
 // Why no record can be taken off the bytes that are left.
-#[derive(Clone, Copy)]
+#[derive(Clone, Copy, PartialEq, Eq, Debug)]
 pub enum RecordCause {
     // no byte is left
     Missing,
@@ -15,14 +18,14 @@ pub enum RecordCause {
 }
 
 // A record that cannot be taken off, and where it begins.
-#[derive(Clone, Copy)]
+#[derive(Clone, Copy, PartialEq, Eq, Debug)]
 pub struct RecordFault {
     pub cause: RecordCause,
     pub byte: u32,
 }
 
 // Why a sheet of whole records is refused.
-#[derive(Clone, Copy)]
+#[derive(Clone, Copy, PartialEq, Eq, Debug)]
 pub enum Cause {
     TooLong,
     OutOfTurn,
@@ -38,21 +41,21 @@ pub enum Cause {
 }
 
 // A record that the format refuses, and where it begins.
-#[derive(Clone, Copy)]
+#[derive(Clone, Copy, PartialEq, Eq, Debug)]
 pub struct FormatFault {
     pub cause: Cause,
     pub byte: u32,
 }
 
 // A fault, and how many records came before it.
-#[derive(Clone, Copy)]
+#[derive(Clone, Copy, PartialEq, Eq, Debug)]
 pub struct Counted<F> {
     pub fault: F,
     pub records: u32,
 }
 
 // The first fault of a sheet.
-#[derive(Clone, Copy)]
+#[derive(Clone, Copy, PartialEq, Eq, Debug)]
 pub enum SheetFault {
     Record(Counted<RecordFault>),
     Format(Counted<FormatFault>),
@@ -124,6 +127,17 @@ impl SheetFault {
     }
 }
 
+// What is printed of a refused sheet: the number of the cause, and the byte.
+impl fmt::Display for SheetFault {
+    ghost output = { λ fault. Some (fault_line fault) };
+
+    fn fmt<W: fmt::Write>(&self, f: &mut fmt::Formatter<W>) -> fmt::Result {
+        let number = self.number();
+        let byte = self.byte();
+        write!(f, "sheet {number} at {byte}")
+    }
+}
+
 impl From<Counted<RecordFault>> for SheetFault {
     ghost from_gives = { λ x y. y ≡ Record x };
 
@@ -144,8 +158,5 @@ impl From<Counted<FormatFault>> for SheetFault {
 pub fn after_records<T, F>(outcome: Result<T, F>, records: u32) -> Result<T, Counted<F>>
     ensures { result ≡ counted_result outcome records }
 {
-    match outcome {
-        Ok(value) => Ok(value),
-        Err(fault) => Err(Counted { fault, records }),
-    }
+    outcome.map_err(|fault| Counted { fault, records })
 }

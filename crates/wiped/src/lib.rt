@@ -6,13 +6,9 @@ ghost use Rattle.arcs.specs.WipedOut.{WipedOut};
 ghost use Rattle.bits.specs.Bits.{domains_of};
 
 // The lowest variable whose domain is empty, if there is one.
+#[tactic(auto, using(crate::proofs::Emptiness::none_in, crate::proofs::Emptiness::one_in))]
 pub fn wiped_out(domains: &[u64]) -> Option<usize>
     ensures { WipedOut (domains_of domains.now) (length domains.now) result }
 {
-    for (i, domain) in domains.iter().enumerate() {
-        if *domain == 0 {
-            return Some(i);
-        }
-    }
-    None
+    domains.iter().position(|domain| *domain == 0)
 }

@@ -3,18 +3,21 @@ ghost use Rattle.std.specs.Prelude.{◌≡◌, ℕ, ◌<◌, length, if◌then�
 ghost use Rattle.catalog.specs.Numbered.{entry, IsNumbering, EntryStands};
 
 use crate::numbering::Numbering;
+use std::array;
 
 // Is entry `e` of the list below 32, and equal to none before it?
 fn stands(list: &[usize], e: usize) -> bool
     requires { e < length list.now }
     ensures { Decides result (EntryStands list.now e) }
 {
-    for earlier in 0..e {
-        if list[earlier] == list[e] {
-            return false;
-        }
-    }
-    list[e] < 32
+    list[e] < 32 && !list[..e].contains(&list[e])
+}
+
+// Does every entry?
+fn all_stand(to: &[usize; 32]) -> bool
+    ensures { Decides result ((e : ℕ) → e < 32 → EntryStands to.now e) }
+{
+    (0..32).all(|e| stands(to, e))
 }
 
 impl Numbering {
@@ -22,35 +25,28 @@ impl Numbering {
     pub fn new(list: &[usize]) -> Option<Numbering>
         ensures { MatchOption result (IsNumbering list.now → ⊥) (λ n. (n.to ≡ list.now) × IsNumbering list.now) }
     {
-        if list.len() != 32 {
-            return None;
+        let to = list.try_into().ok()?;
+        if all_stand(&to) {
+            Some(Numbering { to })
+        } else {
+            None
         }
-        for e in 0..32 {
-            if !stands(list, e) {
-                return None;
-            }
-        }
-        let mut to = [0; 32];
-        to.copy_from_slice(list);
-        Some(Numbering { to })
     }
 
     // Each variable keeps its number.
     pub fn identity() -> Numbering
         ensures { (e : ℕ) → e < 32 → entry result.to e ≡ e }
     {
-        let mut to = [0; 32];
-        for e in 0..32 {
-            to[e] = e;
+        Numbering {
+            to: array::from_fn(|e| e),
         }
-        Numbering { to }
     }
 
     // Entry `e`, where there is one.
     pub fn entry(&self, e: usize) -> Option<usize>
         ensures { result ≡ (if nat_lt e 32 then Some (entry self.now.to e) else None) }
     {
-        if e < 32 { Some(self.to[e]) } else { None }
+        self.to.get(e).copied()
     }
 
     // Entry `e` of those that there are.

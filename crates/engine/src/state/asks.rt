@@ -24,32 +24,27 @@ impl Engine {
     pub fn size(&self, variable: usize) -> usize
         ensures { result ≡ slice_index self.now.constraints.sizes variable }
     {
-        if variable < 32 {
-            self.constraints.sizes[variable] as usize
-        } else {
-            0
-        }
+        self.constraints
+            .sizes
+            .get(variable)
+            .map_or(0, |size| *size as usize)
     }
 
     // The set of the variable's values that are shown.
     pub fn domain(&self, variable: usize) -> u64
         ensures { result ≡ slice_index self.now.domains.sets variable }
     {
-        if variable < 32 {
-            self.domains.sets[variable]
-        } else {
-            0
-        }
+        self.domains.sets.get(variable).copied().unwrap_or(0)
     }
 
     pub fn is_in(&self, constraint: usize) -> bool
         ensures { result ≡ is_present self.now.constraints constraint }
     {
-        if constraint < 128 {
-            self.constraints.present[constraint]
-        } else {
-            false
-        }
+        self.constraints
+            .present
+            .get(constraint)
+            .copied()
+            .unwrap_or(false)
     }
 
     pub fn clock(&self) -> u32
@@ -75,11 +70,6 @@ impl Engine {
     pub fn wiped_out(&self, n: usize) -> Option<usize>
         ensures { WipedOut (shown self.now.domains) n result }
     {
-        for i in 0..n {
-            if self.domain(i) == 0 {
-                return Some(i);
-            }
-        }
-        None
+        (0..n).find(|i| self.domain(*i) == 0)
     }
 }

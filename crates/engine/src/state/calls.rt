@@ -49,8 +49,8 @@ fn count(d: &Domains) -> u32
     ensures { result ≡ total d.now.sets }
 {
     let mut n = 0;
-    for i in 0..32 {
-        n += d.sets[i].count_ones();
+    for set in &d.sets {
+        n += set.count_ones();
     }
     n
 }

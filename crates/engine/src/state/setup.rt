@@ -5,8 +5,7 @@ ghost use Rattle.domains.specs.Stands.{Loaded};
 ghost use Rattle.engine.specs.Calls.{Opened, can_load};
 
 use super::Engine;
-use crate::change::unmarked;
-use domains::{Constraints, capped, full, no_constraints, no_domains, transposed};
+use domains::{Constraints, capped, full, no_constraints, no_domains};
 
 fn can_load(c: &Constraints, constraint: usize, left: usize, right: usize) -> bool
     requires { Arrays c.now }
@@ -29,9 +28,7 @@ fn write_rows(all: &mut [u64; 16384], at: usize, rows: &[u64; 64])
     ensures written { (k : ℕ) → k < 64 → slice_index all.new (at + k) ≡ slice_index rows.now k }
     ensures others { (j : ℕ) → (j < at) ⊎ (at + 64 ≤ j) → slice_index all.new j ≡ slice_index all.old j }
 {
-    for k in 0..64 {
-        all[at + k] = rows[k];
-    }
+    all[at..at + 64].copy_from_slice(rows);
 }
 
 impl Engine {
@@ -53,7 +50,7 @@ impl Engine {
         let sizes = capped(sizes);
         let sets = full(&sizes);
         self.constraints.sizes = sizes;
-        self.constraints.present = unmarked();
+        self.constraints.present = [false; 128];
         self.domains.sets = sets;
         self.domains.clock = time;
     }
@@ -67,7 +64,7 @@ impl Engine {
         if !can_load(&self.constraints, constraint, left, right) {
             return false;
         }
-        let turned = transposed(rows);
+        let turned = supports::turned(rows);
         self.constraints.left[constraint] = left as u8;
         self.constraints.right[constraint] = right as u8;
         write_rows(&mut self.constraints.rows, 128 * constraint, rows);

@@ -5,7 +5,6 @@ ghost use Rattle.network_law.specs.declared.Answer.TheVariants.{Domain, Justifie
 ghost use Rattle.network_model.specs.Performs.{Performs, answer_by};
 
 use super::Network;
-use crate::checks::check_value;
 use catalog::Catalog;
 use domains::Justification;
 use refusal::Refusal;
@@ -25,7 +24,7 @@ impl<C: Catalog> Network<C> {
     pub fn is_shown(&self, variable: usize, value: usize) -> Result<bool, Refusal>
         ensures { Performs (C.Catalog.meaning self.now.catalog) self.now.state (asks_shown variable value) (answer_by Shown result) self.now.state }
     {
-        check_value(&self.state, variable, value)?;
+        self.check_value(variable, value)?;
         Ok(bits::has(self.state.engine.domain(variable), value))
     }
 
@@ -37,7 +36,7 @@ impl<C: Catalog> Network<C> {
     ) -> Result<Option<Justification>, Refusal>
         ensures { Performs (C.Catalog.meaning self.now.catalog) self.now.state (asks_justification variable value) (answer_by Justified result) self.now.state }
     {
-        check_value(&self.state, variable, value)?;
+        self.check_value(variable, value)?;
         Ok(self.state.engine.justification(variable, value))
     }
 

@@ -1,5 +1,5 @@
 // A network is made, and opened.
-ghost use Rattle.std.specs.Prelude.{◌≡◌, ℕ, false, replicate, None, slice_index};
+ghost use Rattle.std.specs.Prelude.{◌≡◌, ℕ, None, slice_index};
 ghost use Rattle.network_law.specs.Calls.{opens};
 ghost use Rattle.network_law.specs.Moment.{Blank};
 ghost use Rattle.network_law.specs.declared.Answer.TheVariants.{Opened};
@@ -14,26 +14,14 @@ use network_model::State;
 use refusal::Refusal;
 use refusal::checks::check_sizes;
 
-fn none_known() -> [bool; 128]
-    ensures { result ≡ replicate 128 false }
-{
-    [false; 128]
-}
-
-fn no_sizes() -> [u8; 32]
-    ensures { result ≡ replicate 32 0 }
-{
-    [0; 32]
-}
-
 // These sizes as bytes, with 0 past their end.
 fn narrow(sizes: &[usize]) -> [u8; 32]
     requires { sizes_refusal sizes.now ≡ None }
     ensures { (i : ℕ) → slice_index result i ≡ slice_index sizes.now i }
 {
-    let mut all = no_sizes();
-    for i in 0..sizes.len() {
-        all[i] = sizes[i] as u8;
+    let mut all = [0; 32];
+    for (i, size) in sizes.iter().enumerate() {
+        all[i] = *size as u8;
     }
     all
 }
@@ -48,7 +36,7 @@ impl<C: Catalog> Network<C> {
         let state = State {
             engine: Engine::new(),
             variables: 0,
-            known: none_known(),
+            known: [false; 128],
         };
         Network { catalog, state }
     }
@@ -61,7 +49,7 @@ impl<C: Catalog> Network<C> {
         check_sizes(sizes)?;
         self.state.engine.open(&narrow(sizes), time);
         self.state.variables = sizes.len();
-        self.state.known = none_known();
+        self.state.known = [false; 128];
         Ok(())
     }
 }

@@ -5,10 +5,10 @@ use Rattle.scratch.proofs.Accepting.{accepted}
 use Rattle.scratch.proofs.Translating.{kept_placed, written}
 use Rattle.scratch.proofs.write.Goals as goal
 
-pub fill-requires : goal.fill-requires
-fill-requires g c =
+pub fill-arcs-requires : goal.fill-arcs-requires
+fill-arcs-requires g c =
     let a = accepted (g.C.Catalog.meaning c.args.catalog.now) c.args.sizes.now c.args.indices.now (length c.args.out.now) c.requires in
-    record { accepted = a.each; bounded = a.bounded; len = c.no_arcs-arcs.ensures.len; off = c.no_arcs-arcs.ensures.off }
+    a.each
 
 pub whole-requires : goal.whole-requires
 whole-requires g c =
@@ -25,7 +25,7 @@ settle-requires g c =
     record {
       placed =
           λ k on.
-          let p = kept_placed m (g.C.Catalog.lawful c.args.catalog.now) c.args.sizes.now c.args.indices.now c.fill.new.arcs a.each c.fill.ensures k on in
+          let p = kept_placed m (g.C.Catalog.lawful c.args.catalog.now) c.args.sizes.now c.args.indices.now c.fill-arcs.result a.each c.fill-arcs.ensures k on in
           (omega (arith, p.0), omega (arith, p.1));
       few = omega (arith, a.fitting.few);
     }
@@ -37,6 +37,6 @@ returns g c =
     let len : length c.settle.new.domains ≡ length c.args.sizes.now =
     c.settle.auto.domains ∙ c.whole.auto.domains ∙ length-take-le _ c.args.out.now (omega (arith, a.wide)) ∙ sub-zero (length c.args.sizes.now)
     in
-    written m (g.C.Catalog.lawful c.args.catalog.now) c.args.sizes.now c.args.indices.now c.fill.new.arcs a.each c.fill.ensures
+    written m (g.C.Catalog.lawful c.args.catalog.now) c.args.sizes.now c.args.indices.now c.fill-arcs.result a.each c.fill-arcs.ensures
     _ c.args.out.now c.whole.new.domains c.settle.new.domains (sub-zero (length c.args.sizes.now)) len c.whole.ensures
     c.settle.ensures

@@ -1,4 +1,4 @@
-use Rattle.std.proofs.Common.{◌≡◌, true, false, length, get_or, ap, ◌∙◌, arith}
+use Rattle.std.proofs.Common.{◌≡◌, true, false, length, get_or, replicate, refl, ap, ◌∙◌, arith}
 use Rattle.std.proofs.lemmas.List.{get_or-set_same, length-replicate}
 use Rattle.domains.proofs.Change.{shape_in, sound_in, settled_in, time_left}
 use Rattle.engine.proofs.Start.{queued_start}
@@ -8,7 +8,7 @@ pub enqueue-requires : goal.enqueue-requires
 enqueue-requires c =
     record {
       low = c.requires.low;
-      queued = queued_start c.new-q.result c.unmarked-marks.result _ c.unmarked-marks.ensures c.new-q.ensures.waiting c.new-q.ensures.len c.new-q.ensures.limit c.requires.room;
+      queued = queued_start c.new-q.result (replicate 128 false) _ refl c.new-q.ensures.waiting c.new-q.ensures.len c.new-q.ensures.limit c.requires.room;
     }
 
 pub propagate-requires : goal.propagate-requires
@@ -16,9 +16,9 @@ propagate-requires c =
     let n = c.args.c.now in
     let d = c.args.d.now in
     let p = c.args.constraint in
-    let long : length c.unmarked-marks.result ≡ 128 = ap length c.unmarked-marks.ensures ∙ length-replicate 128 false in
+    let long : length (replicate 128 false) ≡ 128 = length-replicate 128 false in
     let here : get_or c.enqueue.new.marks p false ≡ true =
-    ap (λ m. get_or m p false) c.enqueue.ensures.marks ∙ get_or-set_same c.unmarked-marks.result p true false (omega (arith, long, c.requires.low))
+    ap (λ m. get_or m p false) c.enqueue.ensures.marks ∙ get_or-set_same (replicate 128 false) p true false (omega (arith, long, c.requires.low))
     in
     record {
       shape = shape_in n d p c.requires.low c.requires.stands c.requires.apart;

@@ -1,4 +1,4 @@
-use Rattle.std.proofs.Common.{◌*◌, ◌≤◌, length, refl, arith, rules}
+use Rattle.std.proofs.Common.{◌*◌, ◌≤◌, false, replicate, length, refl, arith, rules}
 use Rattle.domains.specs.Model.{total}
 use Rattle.domains.specs.Stands.{Stands, with_present}
 use Rattle.domains.proofs.Change.{shape_out, sound_out, settled_out, grew_out, kept_out, time_left}
@@ -10,7 +10,7 @@ pub enqueue_changed-requires : goal.enqueue_changed-requires
 enqueue_changed-requires c =
     record {
       arrays = (shape_out c.args.c.now c.args.d.now c.release_through.new.d c.args.constraint c.requires.low c.requires.stands).arrays;
-      queued = queued_start c.new-q.result c.unmarked-marks.result _ c.unmarked-marks.ensures c.new-q.ensures.waiting c.new-q.ensures.len c.new-q.ensures.limit c.requires.room;
+      queued = queued_start c.new-q.result (replicate 128 false) _ refl c.new-q.ensures.waiting c.new-q.ensures.len c.new-q.ensures.limit c.requires.room;
     }
 
 pub propagate-requires : goal.propagate-requires

@@ -1,9 +1,12 @@
-use Rattle.std.proofs.Common.{◌<◌, ◌≢◌, length, arith, length-set, get_or-set_other, get_or-set_same, below_more}
+use Rattle.std.proofs.Common.{rules, ◌≡◌, ℕ, ◌<◌, arith}
+use Rattle.catalog.specs.Numbered.{entry}
 use Rattle.catalog.proofs.numbering.Numbering.identity.Goals as goal
 
-pub loop-e-preserved : goal.loop-e-preserved
-loop-e-preserved c = (
-  simp length-set c.loop-e.invariant.0,
-  below_more _ _ (λ k h. let ne : k ≢ c.loop-e.e = omega arith in rw get_or-set_other (c.loop-e.invariant.1 k h))
-      (let lt : c.loop-e.e < length c.loop-e.to = omega arith in rw get_or-set_same),
-)
+pub invariant_of-result : goal.invariant_of-result
+invariant_of-result c =
+    let own : (e : ℕ) → e < 32 → entry c.from_fn.result e ≡ e = search rules in
+    record {
+      full = search rules;
+      low = λ e h. omega (arith, own e h);
+      apart = λ v h q. omega (arith, own v.0 (omega (arith, h.0, h.1)), own v.1 h.1, h.0, q);
+    }

@@ -18,10 +18,10 @@ invariant_of-self c =
     let new = c.write_rows-2.new.all in
     record {
       stands = ∣ stands_load n _ d p c.args.left c.args.right c.args.rows.now a.absent
-          (load_done n p c.args.left c.args.right n.rows mid new c.args.rows.now c.transposed-turned.result a.low s.shape refl
-          c.write_rows.ensures.written c.write_rows.ensures.others c.write_rows-2.ensures.written c.write_rows-2.ensures.others c.transposed-turned.ensures.turned)
-          (load_shape n p c.args.left c.args.right n.rows mid new c.args.rows.now c.transposed-turned.result a.low s.shape refl
-          c.write_rows.ensures.written c.write_rows.ensures.others c.write_rows-2.ensures.written c.write_rows-2.ensures.others c.transposed-turned.ensures.turned
+          (load_done n p c.args.left c.args.right n.rows mid new c.args.rows.now c.turned-turned.result a.low s.shape refl
+          c.write_rows.ensures.written c.write_rows.ensures.others c.write_rows-2.ensures.written c.write_rows-2.ensures.others (λ x y _ _. c.turned-turned.ensures x y))
+          (load_shape n p c.args.left c.args.right n.rows mid new c.args.rows.now c.turned-turned.result a.low s.shape refl
+          c.write_rows.ensures.written c.write_rows.ensures.others c.write_rows-2.ensures.written c.write_rows-2.ensures.others (λ x y _ _. c.turned-turned.ensures x y)
           a.left_low a.right_low a.apart c.write_rows-2.ensures.long)
           s ∣₁;
     }
@@ -34,7 +34,7 @@ returns c =
     record {
       can = c.if-not-can_load.ensures;
       loaded =
-          load_done n c.args.constraint c.args.left c.args.right n.rows c.write_rows.new.all c.write_rows-2.new.all c.args.rows.now c.transposed-turned.result a.low s.shape refl
-          c.write_rows.ensures.written c.write_rows.ensures.others c.write_rows-2.ensures.written c.write_rows-2.ensures.others c.transposed-turned.ensures.turned;
+          load_done n c.args.constraint c.args.left c.args.right n.rows c.write_rows.new.all c.write_rows-2.new.all c.args.rows.now c.turned-turned.result a.low s.shape refl
+          c.write_rows.ensures.written c.write_rows.ensures.others c.write_rows-2.ensures.written c.write_rows-2.ensures.others (λ x y _ _. c.turned-turned.ensures x y);
       domains = refl;
     }

@@ -1,16 +1,13 @@
-use Rattle.std.proofs.Common.{below_more}
-use Rattle.engine.proofs.Called.{nothing_shown, something_shown}
+use Rattle.std.proofs.Common.{◌≡◌, get_or, rules}
+use Rattle.std.proofs.lemmas.Iterator.{first_from_Range}
+use Rattle.domains.proofs.Props.{stands_out}
+use Rattle.engine.proofs.Called.{wiped_by}
 use Rattle.engine.proofs.state.Engine.wiped_out.Goals as goal
 
-pub returns-then-domain-eq0 : goal.returns-then-domain-eq0
-returns-then-domain-eq0 c =
-    record {
-      below = c.loop-i-test.true;
-      empty = nothing_shown c.args.self.now.domains c.loop-i.i c.domain.result c.domain.ensures c.if-domain-eq0.true;
-      before = c.loop-i.invariant;
-    }
-
-pub loop-i-preserved : goal.loop-i-preserved
-loop-i-preserved c =
-    below_more _ c.loop-i.i c.loop-i.invariant
-    (something_shown c.args.self.now.domains c.loop-i.i c.domain.result c.domain.type_inv c.domain.ensures c.if-domain-eq0.false)
+pub returns : goal.returns
+returns c =
+    let d = c.args.self.now.domains in
+    let s = stands_out c.args.self.now.constraints d c.args.self.now.stands in
+    wiped_by d c.args.n c.find.result s.sound.sized.wide
+    (first_from_Range _ _ _ c.find.result (λ i. get_or d.sets i 0 ≡ 0) (λ i. get_or d.sets i 0 ≡ 0 → ⊥) c.find.ensures.ran
+    (λ x q k. search rules) (λ x q k. search rules))

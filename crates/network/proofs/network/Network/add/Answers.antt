@@ -26,13 +26,13 @@ returns g c =
     let lawful = g.C.Catalog.lawful n.catalog in
     let free = c.in_ok-left.ensures.refused in
     record {
-      catalog = refl;
+      catalog = c.put_in.ensures.catalog ∙ c.know.ensures.catalog;
       performs = λ linked.
-          add_took m lawful n.state c.args.constraint c.args.waiting.now c.args.returning.now linked c.put_in.new.state c.know.new.state c.put_in.result free
-          (c.know.ensures linked) c.put_in.ensures.added c.put_in.ensures.kept.0 c.put_in.ensures.kept.1;
+          add_took m lawful n.state c.args.constraint c.args.waiting.now c.args.returning.now linked c.put_in.new.self.state c.know.new.self.state c.put_in.result free
+          (c.know.ensures.learnt linked) c.put_in.ensures.added c.put_in.ensures.wiped c.put_in.ensures.variables c.put_in.ensures.known;
       past = c.put_in.ensures.past;
       returning = refl;
       refused = λ linked.
           MatchResult-weaker c.put_in.result c.put_in.ensures.added (λ v did. tt)
-          (λ e cannot. absurd (both_ways _ cannot (may_add m lawful n.state c.args.constraint c.args.waiting.now c.args.returning.now linked c.know.new.state free (c.know.ensures linked))));
+          (λ e cannot. absurd (both_ways _ cannot (may_add m lawful n.state c.args.constraint c.args.waiting.now c.args.returning.now linked c.know.new.self.state free (c.know.ensures.learnt linked))));
     }

@@ -6,6 +6,6 @@ pub returns : goal.returns
 returns g c =
     record {
       catalog = refl;
-      linked = links_new (g.C.Catalog.meaning c.args.catalog) c.new.result.constraints c.none_known.result c.new.ensures.constraints c.none_known.ensures;
+      linked = links_new (g.C.Catalog.meaning c.args.catalog) c.new.result.constraints _ c.new.ensures.constraints refl;
       blank = blank_new c.new.result.constraints c.new.result.domains c.new.ensures.constraints c.new.ensures.domains;
     }

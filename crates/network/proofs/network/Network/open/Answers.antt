@@ -31,7 +31,7 @@ returns g c =
       performs = λ linked.
           record {
             linked = links_open m lawful n.state.engine.constraints e.constraints e.domains c.args.sizes.now c.narrow.result c.args.time
-                (sym c.in_ok-check_sizes.ensures) c.narrow.ensures stands.shape.arrays.sizes c.open.ensures c.none_known-self.result c.none_known-self.ensures;
+                (sym c.in_ok-check_sizes.ensures) c.narrow.ensures stands.shape.arrays.sizes c.open.ensures _ refl;
             step = step_open m lawful n.state.engine.constraints e.constraints e.domains c.args.sizes.now c.narrow.result c.args.time
                 (sym c.in_ok-check_sizes.ensures) c.narrow.ensures stands.shape.arrays.sizes c.open.ensures (moment_of n.state);
           };

@@ -26,10 +26,10 @@ returns g c =
     let lawful = g.C.Catalog.lawful n.catalog in
     let free = c.in_ok-check_retract.ensures in
     record {
-      catalog = refl;
+      catalog = c.take_out.ensures.catalog;
       performs = λ linked.
-          retract_took m lawful n.state c.args.constraint c.args.waiting.now c.args.returning.now linked c.take_out.new.state c.take_out.result free
-          c.take_out.ensures.retracted c.take_out.ensures.kept.0 c.take_out.ensures.kept.1;
+          retract_took m lawful n.state c.args.constraint c.args.waiting.now c.args.returning.now linked c.take_out.new.self.state c.take_out.result free
+          c.take_out.ensures.retracted c.take_out.ensures.wiped c.take_out.ensures.variables c.take_out.ensures.known;
       past = c.take_out.ensures.past;
       past_returning = c.take_out.ensures.past_returning;
       refused = λ linked.

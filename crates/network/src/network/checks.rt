@@ -1,0 +1,80 @@
+// Whether a call may be answered.
+ghost use Rattle.std.specs.Prelude.{◌≡◌, ◌<◌, ◌≤◌, ◌⊎◌, IfOk, Some, MatchResult, slice_index};
+ghost use Rattle.catalog.specs.Meaning.{ends_of};
+ghost use Rattle.network_law.specs.Refusals.{lent_refusal, spent};
+ghost use Rattle.network_model.specs.Performs.{add_cause, retract_cause, rooms_of};
+ghost use Rattle.refusal.specs.declared.Refusal.TheVariants.{NoSuchValue};
+ghost use Rattle.std.specs.Result.{result_err};
+
+use super::Network;
+use catalog::Catalog;
+use domains::Returning;
+use refusal::Refusal;
+use refusal::checks::check_constraint;
+
+// The last time at which a change may begin: at most 2,048 values go out in it.
+const LAST: u32 = 4_294_965_247;
+
+// Is there room and time for a change?
+fn check_lent(waiting: &[u8], returning: &[Returning], clock: u32) -> Result<(), Refusal>
+    ensures { result_err result ≡ lent_refusal (rooms_of waiting.now returning.now) (spent clock) }
+{
+    if waiting.len() < 128 || returning.len() < 2048 {
+        return Err(Refusal::ShortBuffer);
+    }
+    if clock > LAST {
+        return Err(Refusal::ClockSpent);
+    }
+    Ok(())
+}
+
+impl<C: Catalog> Network<C> {
+    // May the constraint be added? If so, its two ends.
+    pub(super) fn check_add(
+        &self,
+        constraint: usize,
+        waiting: &[u8],
+        returning: &[Returning],
+    ) -> Result<(usize, usize), Refusal>
+        ensures refused { result_err result ≡ add_cause (C.Catalog.meaning self.now.catalog) self.now.state constraint (rooms_of waiting.now returning.now) }
+        ensures ends { IfOk result (λ e. Some e ≡ ends_of (C.Catalog.meaning self.now.catalog) constraint) }
+    {
+        let ends = check_constraint(&self.catalog, self.state.variables, constraint)?;
+        if self.state.engine.is_in(constraint) {
+            return Err(Refusal::AlreadyIn);
+        }
+        check_lent(waiting, returning, self.state.engine.clock())?;
+        Ok(ends)
+    }
+
+    // May the constraint be retracted?
+    pub(super) fn check_retract(
+        &self,
+        constraint: usize,
+        waiting: &[u8],
+        returning: &[Returning],
+    ) -> Result<(), Refusal>
+        ensures { result_err result ≡ retract_cause (C.Catalog.meaning self.now.catalog) self.now.state constraint (rooms_of waiting.now returning.now) }
+    {
+        if constraint >= self.catalog.count() {
+            return Err(Refusal::NoSuchConstraint);
+        }
+        if !self.state.engine.is_in(constraint) {
+            return Err(Refusal::NotIn);
+        }
+        check_lent(waiting, returning, self.state.engine.clock())
+    }
+
+    // Is it a value of one of the variables?
+    pub(super) fn check_value(&self, variable: usize, value: usize) -> Result<(), Refusal>
+        ensures { MatchResult result (λ _. (variable < self.now.state.variables) × (value < slice_index self.now.state.engine.constraints.sizes variable)) (λ e. (e ≡ NoSuchValue) × ((self.now.state.variables ≤ variable) ⊎ (slice_index self.now.state.engine.constraints.sizes variable ≤ value))) }
+    {
+        if variable >= self.state.variables {
+            return Err(Refusal::NoSuchValue);
+        }
+        if value >= self.state.engine.size(variable) {
+            return Err(Refusal::NoSuchValue);
+        }
+        Ok(())
+    }
+}

@@ -1,0 +1,29 @@
+// What the engine knows of the catalog: each constraint is asked for once, when it is first needed, and kept until the next opening.
+ghost use Rattle.std.specs.Prelude.{◌≡◌, false, Some};
+ghost use Rattle.catalog.specs.Meaning.{ends_of};
+ghost use Rattle.domains.specs.Model.{is_present};
+ghost use Rattle.network_model.specs.Model.{Linked};
+ghost use Rattle.network_model.specs.Performs.{Learnt};
+
+use super::Network;
+use catalog::Catalog;
+
+impl<C: Catalog> Network<C> {
+    // Loads the constraint, which lies between these two variables, unless it is known already.
+    pub(super) fn know(&mut self, constraint: usize, left: usize, right: usize)
+        requires ends { Some (left, right) ≡ ends_of (C.Catalog.meaning self.old.catalog) constraint }
+        requires absent { is_present self.old.state.engine.constraints constraint ≡ false }
+        ensures catalog { self.new.catalog ≡ self.old.catalog }
+        ensures learnt { Linked (C.Catalog.meaning self.old.catalog) self.old.state → Learnt (C.Catalog.meaning self.old.catalog) constraint self.old.state self.new.state }
+    {
+        if !self.state.known[constraint] {
+            let rows = supports::rows(
+                &self.catalog,
+                constraint,
+                self.state.engine.size(left),
+                self.state.engine.size(right),
+            );
+            self.state.known[constraint] = self.state.engine.load(constraint, left, right, &rows);
+        }
+    }
+}

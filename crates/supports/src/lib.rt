@@ -1,0 +1,61 @@
+// The supports of values: for each value of one end of a constraint, the set of the values of the other end that may stand beside it.
+#![tactic(auto)]
+
+ghost use Rattle.std.specs.Prelude.{◌≡◌, ℕ, ◌&&◌, nat_lt, slice_index};
+ghost use Rattle.bits.specs.Bits.{has_bit};
+ghost use Rattle.catalog.specs.Meaning.{allowed};
+
+use catalog::Catalog;
+
+// The values below `size` of the right end that the constraint `p` allows beside the value `x` of the left end.
+#[tactic(auto, using(bits::proofs::Bitwise::has_of_zero))]
+fn row<C: Catalog>(catalog: &C, p: usize, x: usize, size: usize) -> u64
+    ensures { (y : ℕ) → has_bit result y ≡ (nat_lt y size && allowed (C.Catalog.meaning catalog.now) p x y) }
+{
+    let mut row = 0;
+    for y in 0..size.min(64) {
+        if catalog.allows(p, x, y) {
+            row = bits::with(row, y);
+        }
+    }
+    row
+}
+
+// The rows of the constraint `p`, for values of its ends below these sizes: entry x is the set of those that it allows beside the value x
+// of its left end.
+#[tactic(auto, using(bits::proofs::Bitwise::has_of_zero))]
+pub fn rows<C: Catalog>(catalog: &C, p: usize, left_size: usize, right_size: usize) -> [u64; 64]
+    ensures { (x y : ℕ) → has_bit (slice_index result x) y ≡ (nat_lt x left_size && (nat_lt y right_size && allowed (C.Catalog.meaning catalog.now) p x y)) }
+{
+    let mut rows = [0; 64];
+    for x in 0..left_size.min(64) {
+        rows[x] = row(catalog, p, x, right_size);
+    }
+    rows
+}
+
+// Which of the rows have the value `y`.
+#[tactic(auto, using(bits::proofs::Bitwise::has_of_zero, bits::proofs::Bitwise::has_past))]
+fn column(rows: &[u64; 64], y: usize) -> u64
+    ensures { (x : ℕ) → has_bit result x ≡ has_bit (slice_index rows.now x) y }
+{
+    let mut column = 0;
+    for (x, row) in rows.iter().enumerate() {
+        if bits::has(*row, y) {
+            column = bits::with(column, x);
+        }
+    }
+    column
+}
+
+// The same pairs from the other end: row y has x where row x has y.
+#[tactic(auto, using(bits::proofs::Bitwise::has_of_zero, bits::proofs::Bitwise::has_past))]
+pub fn turned(rows: &[u64; 64]) -> [u64; 64]
+    ensures { (x y : ℕ) → has_bit (slice_index result y) x ≡ has_bit (slice_index rows.now x) y }
+{
+    let mut turned = [0; 64];
+    for y in 0..64 {
+        turned[y] = column(rows, y);
+    }
+    turned
+}
