@@ -2,7 +2,7 @@
 use catalog::Catalog;
 
 #[derive(Clone, Copy)]
-pub struct Arc {
+pub(crate) struct Arc {
     pub constraint: usize,
     pub near: usize,
     pub far: usize,
@@ -10,51 +10,41 @@ pub struct Arc {
     pub forward: bool,
 }
 
-// The arcs of the constraint `p`, between `a` and `b`, from either end.
-pub(crate) fn both(p: usize, a: usize, b: usize) -> (Arc, Arc) {
-    let there = Arc {
-        constraint: p,
-        near: a,
-        far: b,
-        forward: true,
-    };
-    let back = Arc {
-        constraint: p,
-        near: b,
-        far: a,
-        forward: false,
-    };
-    (there, back)
-}
-
-// The arc of the constraint `p` whose far variable is `u`, if `u` is one of its ends.
-pub(crate) fn toward<C: Catalog>(catalog: &C, p: usize, u: usize) -> Option<Arc> {
-    let (a, b) = catalog.ends(p)?;
-    let (there, back) = both(p, a, b);
-    if u == b {
-        Some(there)
-    } else if u == a {
-        Some(back)
-    } else {
-        None
+impl Arc {
+    // The arcs of the constraint `p` with these ends, the first end's before the second's.
+    pub(crate) fn both(p: usize, (a, b): (usize, usize)) -> [Arc; 2] {
+        let there = Arc {
+            constraint: p,
+            near: a,
+            far: b,
+            forward: true,
+        };
+        let back = Arc {
+            near: b,
+            far: a,
+            forward: false,
+            ..there
+        };
+        [there, back]
     }
-}
 
-// May `d` of the near variable stand beside `e` of the far one?
-fn allows<C: Catalog>(catalog: &C, arc: Arc, d: usize, e: usize) -> bool {
-    if arc.forward {
-        catalog.allows(arc.constraint, d, e)
-    } else {
-        catalog.allows(arc.constraint, e, d)
+    // The arc of the constraint `p` whose far variable is `u`, if `u` is one of its ends.
+    pub(crate) fn toward<C: Catalog>(catalog: &C, p: usize, u: usize) -> Option<Arc> {
+        let ends = catalog.ends(p)?;
+        Arc::both(p, ends).into_iter().find(|arc| arc.far == u)
     }
-}
 
-// Has `d` of the near variable a support among these values of the far one?
-pub(crate) fn supported<C: Catalog>(catalog: &C, arc: Arc, d: usize, far: u64) -> bool {
-    for e in 0..64 {
-        if bits::has(far, e) && allows(catalog, arc, d, e) {
-            return true;
+    // May `d` of the near variable stand beside `e` of the far one?
+    fn allows<C: Catalog>(self, catalog: &C, d: usize, e: usize) -> bool {
+        if self.forward {
+            catalog.allows(self.constraint, d, e)
+        } else {
+            catalog.allows(self.constraint, e, d)
         }
     }
-    false
+
+    // Has `d` of the near variable a support among these values of the far one?
+    pub(crate) fn supported<C: Catalog>(self, catalog: &C, d: usize, far: u64) -> bool {
+        (0..64).any(|e| bits::has(far, e) && self.allows(catalog, d, e))
+    }
 }

@@ -11,11 +11,13 @@
 #![tactic(auto)]
 
 use catalog::Catalog;
-use state::State;
+use queue::Queue;
+use state::{Justification, State};
 use std::alloc::{AllocError, Global};
 
 mod arc;
 mod filter;
+mod queue;
 mod restore;
 pub mod state;
 
@@ -45,19 +47,19 @@ impl<'a, C: Catalog> Solver<'a, C> {
             return false;
         }
         self.state.set_in(p, true);
-        filter::propagate(self.catalog, &mut self.state, filter::only(p));
+        self.filter(Queue::only(p));
         true
     }
 
     // Retracts the constraint `p`. No, and nothing is done, where it is not in. Without memory the solver is left half-way: open another.
     pub fn retract(&mut self, heap: Global, p: usize) -> Result<bool, AllocError> {
-        let Some((a, b)) = self.catalog.ends(p) else {
+        let Some(ends) = self.catalog.ends(p) else {
             return Ok(false);
         };
         if !self.state.is_in(p) {
             return Ok(false);
         }
-        restore::retract(heap, self.catalog, &mut self.state, p, a, b)?;
+        self.take_out(heap, p, ends)?;
         Ok(true)
     }
 
@@ -66,12 +68,8 @@ impl<'a, C: Catalog> Solver<'a, C> {
         self.state.domain(i)
     }
 
-    // The neighbour and the time of the value `x` of the variable `i`, where it is out.
-    pub fn justification(&self, i: usize, x: usize) -> Option<(usize, u64)> {
-        let why = self.state.why(i, x);
-        match why.neighbour {
-            Some(j) => Some((j, why.time)),
-            None => None,
-        }
+    // Why the value `x` of the variable `i` is out, where it is.
+    pub fn justification(&self, i: usize, x: usize) -> Option<Justification> {
+        self.state.why(i, x)
     }
 }

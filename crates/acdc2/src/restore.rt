@@ -1,15 +1,16 @@
 // Retraction: values that may have gone out because of the constraint are put back, then those that may have gone out because of these, and
 // then the surplus is filtered out again.
+use crate::Solver;
 use crate::arc::Arc;
-use crate::state::State;
-use crate::{arc, filter};
+use crate::queue::Queue;
+use crate::state::{Justification, State};
 use catalog::Catalog;
 use std::alloc::{AllocError, Global};
 
 // More turns than restoring can take: each of 2,048 values comes back at most once, and no empty set waits.
 const TURNS: usize = 2049;
 
-// Values of one variable that came back together, and the least time at which one of them had gone out.
+// Values of one variable that came back together, and the least time at which one of them had gone out: the greatest there is, while there are none.
 #[derive(Clone, Copy)]
 struct Restored {
     variable: usize,
@@ -17,50 +18,35 @@ struct Restored {
     values: u64,
 }
 
-fn nothing(variable: usize) -> Restored {
-    Restored {
-        variable,
-        time: u64::MAX,
-        values: 0,
-    }
-}
-
-// Puts the value `d` back, and takes it into the set.
-fn restore(state: &mut State, restored: Restored, d: usize) -> Restored {
-    let time = state.why(restored.variable, d).time;
-    state.put_back(restored.variable, d);
-    Restored {
-        variable: restored.variable,
-        time: restored.time.min(time),
-        values: bits::with(restored.values, d),
-    }
-}
-
-// Puts back every value of `u` that went out since it lost all supports in `v`.
-fn initialize(state: &mut State, u: usize, v: usize) -> Restored {
-    let absent = state.absent(u);
-    let mut restored = nothing(u);
-    for d in 0..64 {
-        if bits::has(absent, d) && state.why(u, d).neighbour == Some(v) {
-            restored = restore(state, restored, d);
+impl Restored {
+    fn nothing(variable: usize) -> Restored {
+        Restored {
+            variable,
+            time: u64::MAX,
+            values: 0,
         }
     }
-    restored
+
+    // The set with the value `d`, which was out for that reason.
+    fn with(self, d: usize, why: Justification) -> Restored {
+        Restored {
+            time: self.time.min(why.time),
+            values: bits::with(self.values, d),
+            ..self
+        }
+    }
 }
 
-// `from` holds values of the arc's far variable. Puts back every value of the near one that went out because of the far one, later than the first of
-// `from` did, and that has a support in `from`.
-fn follow<C: Catalog>(catalog: &C, state: &mut State, arc: Arc, from: Restored) -> Restored {
-    let absent = state.absent(arc.near);
-    let mut restored = nothing(arc.near);
+// Puts back every value of `u` that is out for a reason that the test accepts.
+fn put_back<F: Fn(usize, Justification) -> bool>(state: &mut State, u: usize, test: F) -> Restored
+    requires { F.IsAlwaysCallable test }
+{
+    let mut restored = Restored::nothing(u);
     for d in 0..64 {
-        if bits::has(absent, d) {
-            let why = state.why(arc.near, d);
-            if why.neighbour == Some(arc.far)
-                && why.time > from.time
-                && arc::supported(catalog, arc, d, from.values)
-            {
-                restored = restore(state, restored, d);
+        if let Some(why) = state.why(u, d) {
+            if test(d, why) {
+                state.put_back(u, d);
+                restored = restored.with(d, why);
             }
         }
     }
@@ -75,57 +61,61 @@ fn push(waiting: &mut Vec<Restored>, restored: Restored) -> Result<(), AllocErro
     Ok(())
 }
 
-// Follows the restored values along each constraint at their variable.
-fn spread<C: Catalog>(
-    catalog: &C,
-    state: &mut State,
-    from: Restored,
-    waiting: &mut Vec<Restored>,
-) -> Result<(), AllocError> {
-    for p in 0..128 {
-        if state.is_in(p) {
-            if let Some(arc) = arc::toward(catalog, p, from.variable) {
-                let restored = follow(catalog, state, arc, from);
-                push(waiting, restored)?;
+impl<C: Catalog> Solver<'_, C> {
+    // Puts back every value of `u` that went out since it lost all supports in `v`.
+    fn initialize(&mut self, u: usize, v: usize) -> Restored {
+        put_back(&mut self.state, u, |_, why| why.neighbour == v)
+    }
+
+    // `from` holds values of the arc's far variable. Puts back every value of the near one that went out because of the far one, later than the first
+    // of `from` did, and that has a support in `from`.
+    fn follow(&mut self, arc: Arc, from: Restored) -> Restored {
+        let catalog = self.catalog;
+        put_back(&mut self.state, arc.near, |d, why| {
+            why.neighbour == arc.far
+                && why.time > from.time
+                && arc.supported(catalog, d, from.values)
+        })
+    }
+
+    // Follows the restored values along each constraint at their variable.
+    fn spread(&mut self, from: Restored, waiting: &mut Vec<Restored>) -> Result<(), AllocError> {
+        let catalog = self.catalog;
+        let arcs = (0..128).filter_map(|p| Arc::toward(catalog, p, from.variable));
+        for arc in arcs {
+            if self.state.is_in(arc.constraint) {
+                push(waiting, self.follow(arc, from))?;
             }
         }
+        Ok(())
     }
-    Ok(())
-}
 
-// Follows every set that waits, and gives the constraints at the variables that got values back.
-fn propagate<C: Catalog>(
-    catalog: &C,
-    state: &mut State,
-    waiting: &mut Vec<Restored>,
-) -> Result<filter::Queue, AllocError> {
-    let mut revise = filter::none();
-    for _ in 0..TURNS {
-        let Some(from) = waiting.pop() else {
-            return Ok(revise);
-        };
-        spread(catalog, state, from, waiting)?;
-        filter::schedule(catalog, state, from.variable, None, &mut revise);
+    // Follows every set that waits, and gives the constraints at the variables that got values back.
+    fn restore(&mut self, waiting: &mut Vec<Restored>) -> Result<Queue, AllocError> {
+        let mut revise = Queue::empty();
+        for _ in 0..TURNS {
+            let Some(from) = waiting.pop() else {
+                return Ok(revise);
+            };
+            self.spread(from, waiting)?;
+            self.schedule(from.variable, None, &mut revise);
+        }
+        Ok(revise)
     }
-    Ok(revise)
-}
 
-// Retracts the constraint `p`, which is in, between `u` and `v`.
-pub(crate) fn retract<C: Catalog>(
-    heap: Global,
-    catalog: &C,
-    state: &mut State,
-    p: usize,
-    u: usize,
-    v: usize,
-) -> Result<(), AllocError> {
-    let mut waiting = Vec::new(heap);
-    let of_u = initialize(state, u, v);
-    push(&mut waiting, of_u)?;
-    let of_v = initialize(state, v, u);
-    push(&mut waiting, of_v)?;
-    state.set_in(p, false);
-    let revise = propagate(catalog, state, &mut waiting)?;
-    filter::propagate(catalog, state, revise);
-    Ok(())
+    // Takes out the constraint `p`, which is in, between `u` and `v`.
+    pub(crate) fn take_out(
+        &mut self,
+        heap: Global,
+        p: usize,
+        (u, v): (usize, usize),
+    ) -> Result<(), AllocError> {
+        let mut waiting = Vec::new(heap);
+        push(&mut waiting, self.initialize(u, v))?;
+        push(&mut waiting, self.initialize(v, u))?;
+        self.state.set_in(p, false);
+        let revise = self.restore(&mut waiting)?;
+        self.filter(revise);
+        Ok(())
+    }
 }

@@ -1,54 +1,46 @@
 // What the solver keeps of its variables and constraints.
 use std::alloc::{AllocError, Global};
 
-// Why a value is out: the first neighbouring variable in which it lost all supports, and when. No neighbour for a value that is shown.
-#[derive(Clone, Copy)]
+// Why a value is out: the first neighbouring variable in which it lost all supports, and when.
+#[derive(Clone, Copy, PartialEq, Eq, Debug)]
 pub struct Justification {
-    pub neighbour: Option<usize>,
+    pub neighbour: usize,
     pub time: u64,
 }
 
-// A variable: its values from the start, those still shown, and why the others are not.
+// A variable: the values that are shown, and for each that is out why it is.
 #[derive(Clone, Copy)]
 struct Variable {
-    all: u64,
     domain: u64,
-    why: [Justification; 64],
+    why: [Option<Justification>; 64],
 }
 
 #[derive(Drop)]
 pub struct State {
     variables: Vec<Variable>,
-    present: Vec<bool>,
+    present: [bool; 128],
     clock: u64,
 }
 
-const SHOWN: Justification = Justification {
-    neighbour: None,
-    time: 0,
-};
-
-// A variable with every value shown.
-fn whole(size: usize) -> Variable {
-    let all = bits::below(size);
-    Variable {
-        all,
-        domain: all,
-        why: [SHOWN; 64],
+impl Variable {
+    // A variable with as many values, all shown.
+    fn whole(size: usize) -> Variable {
+        Variable {
+            domain: bits::below(size),
+            why: [None; 64],
+        }
     }
 }
 
 impl State {
     // Every value shown and no constraint in.
     pub(crate) fn new(heap: Global, sizes: &[usize]) -> Result<State, AllocError> {
-        let mut variables = Vec::new(heap);
-        for size in sizes {
-            variables.push(whole(*size))?;
-        }
-        let present = vec![in heap; false; 128]?;
         Ok(State {
-            variables,
-            present,
+            variables: sizes
+                .iter()
+                .map(|size| Variable::whole(*size))
+                .collect(heap)?,
+            present: [false; 128],
             clock: 0,
         })
     }
@@ -70,39 +62,25 @@ impl State {
 
     // The values of `u` that are shown.
     pub(crate) fn domain(&self, u: usize) -> u64 {
-        match self.variables.get(u) {
-            Some(variable) => variable.domain,
-            None => 0,
-        }
+        self.variables.get(u).map_or(0, |variable| variable.domain)
     }
 
-    // The values of `u` that are out.
-    pub(crate) fn absent(&self, u: usize) -> u64 {
-        match self.variables.get(u) {
-            Some(variable) => variable.all & !variable.domain,
-            None => 0,
-        }
-    }
-
-    // Why the value `d` of `u` is out.
-    pub(crate) fn why(&self, u: usize, d: usize) -> Justification {
-        match self.variables.get(u) {
-            Some(variable) => variable.why.get(d).copied().unwrap_or(SHOWN),
-            None => SHOWN,
-        }
+    // Why the value `d` of `u` is out, if it is.
+    pub(crate) fn why(&self, u: usize, d: usize) -> Option<Justification> {
+        *self.variables.get(u)?.why.get(d)?
     }
 
     // Puts the value `d` of `u` out, since it lost all supports in `v`, and moves the clock on.
     pub(crate) fn put_out(&mut self, u: usize, d: usize, v: usize) {
         let why = Justification {
-            neighbour: Some(v),
+            neighbour: v,
             time: self.clock,
         };
         self.clock = self.clock.wrapping_add(1);
         if let Some(variable) = self.variables.get_mut(u) {
             variable.domain = bits::without(variable.domain, d);
             if let Some(place) = variable.why.get_mut(d) {
-                *place = why;
+                *place = Some(why);
             }
         }
     }
@@ -112,7 +90,7 @@ impl State {
         if let Some(variable) = self.variables.get_mut(u) {
             variable.domain = bits::with(variable.domain, d);
             if let Some(place) = variable.why.get_mut(d) {
-                *place = SHOWN;
+                *place = None;
             }
         }
     }

@@ -1,2 +1,4 @@
 pub mod Constraints
+pub mod Density
+pub mod Sums
 pub mod Xorshift

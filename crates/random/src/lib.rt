@@ -1,14 +1,16 @@
 // Numbers and catalogs that look like chance, the same for the same seed.
 #![tactic(auto)]
 
-ghost use Rattle.std.specs.Prelude.{◌*◌, ◌<◌, ◌≤◌, ◌%◌, ◌^◌, ◌≡◌};
+ghost use Rattle.std.specs.Prelude.{◌*◌, ◌<◌, ◌≤◌, ◌%◌, ◌^◌, ◌≡◌, max};
 ghost use Rattle.random.specs.Xorshift.{FACTOR, stirred};
 
+pub mod density;
+pub mod drawn;
 pub mod ends;
 pub mod made;
+pub mod relation;
 pub mod sum;
-pub mod sums;
-pub mod tables;
+pub mod table;
 
 // The generator xorshift64*.
 #[derive(Clone, Copy)]
@@ -18,7 +20,9 @@ pub struct Random {
 
 impl Random {
     // The generator that begins at this seed; a seed of 0, from which it would never move, counts as 1.
-    pub fn new(seed: u64) -> Random {
+    pub fn new(seed: u64) -> Random
+        ensures { result.state ≡ max seed 1 }
+    {
         Random { state: seed.max(1) }
     }
 

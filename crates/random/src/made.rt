@@ -1,15 +1,20 @@
 // Catalogs and numberings drawn from a generator.
-ghost use Rattle.std.specs.Prelude.{length, ◌≡◌};
+ghost use Rattle.std.specs.Prelude.{length, ◌≡◌, ◌≤◌};
+ghost use Rattle.random.specs.Constraints.{LieBelow};
 
 use crate::Random;
+use crate::density::Density;
+use crate::drawn::{Constraint, Sums, Tables};
 use crate::ends::Ends;
 use crate::sum::Sum;
-use crate::sums::Sums;
-use crate::tables::Tables;
+use crate::table::Table;
 use catalog::numbering::Numbering;
+use std::array;
 
 // Two different variables below `span`, taken to be from 2 to 32.
-fn ends(random: &mut Random, span: usize) -> Ends {
+fn ends(random: &mut Random, span: usize) -> Ends
+    ensures { 2 ≤ span → LieBelow span result }
+{
     let span = span.clamp(2, 32);
     let left = random.below(span);
     let right = (left + 1 + random.below(span - 1)) % span;
@@ -20,50 +25,39 @@ fn ends(random: &mut Random, span: usize) -> Ends {
     }
 }
 
+// Ends for 24 constraints, which are drawn before any relation.
 fn all_ends(random: &mut Random, span: usize) -> [Ends; 24]
     ensures { length result ≡ 24 }
 {
-    let mut all = [Ends { left: 0, right: 1 }; 24];
-    for p in 0..24 {
-        all[p] = ends(random, span);
-    }
-    all
+    array::from_fn(|_| ends(random, span))
 }
 
-// A row in which about one bit in four, in two, or three in four are set.
-fn row(random: &mut Random, density: usize) -> u64 {
+// A row as full as that.
+fn row(random: &mut Random, density: Density) -> u64 {
     let a = random.draw();
     let b = random.draw();
     match density {
-        0 => a & b,
-        1 => a,
-        _ => a | b,
+        Density::Quarter => a & b,
+        Density::Half => a,
+        Density::ThreeQuarters => a | b,
     }
 }
 
-fn no_rows() -> [u64; 1536]
-    ensures { length result ≡ 1536 }
-{
-    [0; 1536]
-}
-
-fn all_rows(random: &mut Random, density: usize) -> [u64; 1536]
-    ensures { length result ≡ 1536 }
-{
-    let mut rows = no_rows();
-    for k in 0..1536 {
-        rows[k] = row(random, density);
+fn table(random: &mut Random, density: Density) -> Table {
+    Table {
+        rows: array::from_fn(|_| row(random, density)),
     }
-    rows
 }
 
 // Up to 24 tables on variables below `span`.
-pub fn tables(random: &mut Random, count: usize, span: usize, density: usize) -> Tables
+pub fn tables(random: &mut Random, count: usize, span: usize, density: Density) -> Tables
     ensures { result.count ≡ count }
 {
-    let ends = all_ends(random, span);
-    let rows = all_rows(random, density);
-    Tables { count, ends, rows }
+    let constraints = all_ends(random, span).map(|ends| Constraint {
+        ends,
+        relation: table(random, density),
+    });
+    Tables { count, constraints }
 }
 
 // A sum that is met by a good part of the pairs of values below `size`.
@@ -80,39 +74,22 @@ fn sum(random: &mut Random, size: usize) -> Sum {
     }
 }
 
-fn all_sums(random: &mut Random, size: usize) -> [Sum; 24]
-    ensures { length result ≡ 24 }
-{
-    let mut sums = [sum(random, size); 24];
-    for p in 1..24 {
-        sums[p] = sum(random, size);
-    }
-    sums
-}
-
 // Up to 24 sums on variables below `span` with about `size` values.
 pub fn sums(random: &mut Random, count: usize, span: usize, size: usize) -> Sums
     ensures { result.count ≡ count }
 {
-    let ends = all_ends(random, span);
-    let sums = all_sums(random, size);
-    Sums { count, ends, sums }
+    let constraints = all_ends(random, span).map(|ends| Constraint {
+        ends,
+        relation: sum(random, size),
+    });
+    Sums { count, constraints }
 }
 
 // The numbers below `span` shuffled; the others keep their places.
 pub fn numbering(random: &mut Random, span: usize) -> Numbering {
-    let mut list = [0; 32];
-    for e in 0..32 {
-        list[e] = e;
-    }
+    let mut list: [usize; 32] = array::from_fn(|e| e);
     for e in 1..span.min(32) {
-        let other = random.below(e);
-        let moved = list[e];
-        list[e] = list[other];
-        list[other] = moved;
+        list.swap(e, random.below(e));
     }
-    match Numbering::new(&list) {
-        Some(numbering) => numbering,
-        None => Numbering::identity(),
-    }
+    Numbering::new(&list).unwrap_or(Numbering::identity())
 }

@@ -3,17 +3,43 @@ use catalog::Catalog;
 use refusal::Refusal;
 use std::alloc::{AllocError, Global};
 
+// A value of a variable.
+#[derive(Clone, Copy)]
+pub struct Value {
+    pub variable: usize,
+    pub value: usize,
+}
+
+// A call: the constraint that is to be added, or retracted.
+#[derive(Clone, Copy)]
+pub enum Call {
+    Add(usize),
+    Retract(usize),
+}
+
 #[derive(Drop)]
 pub struct Book {
     pub sizes: Vec<usize>,
-    present: Vec<bool>,
+    // every value of every variable
+    pub values: Vec<Value>,
+    present: [bool; 128],
 }
 
 impl Book {
     // These variables, and no constraint in.
     pub fn open(heap: Global, sizes: Vec<usize>) -> Result<Book, AllocError> {
-        let present = vec![in heap; false; 128]?;
-        Ok(Book { sizes, present })
+        let mut values = Vec::new(heap);
+        for (variable, size) in sizes.iter().enumerate() {
+            for value in 0..*size {
+                values.push(Value { variable, value })?;
+            }
+        }
+        let present = [false; 128];
+        Ok(Book {
+            sizes,
+            values,
+            present,
+        })
     }
 
     // The number of values of the variable `i`.
@@ -25,45 +51,44 @@ impl Book {
         self.present.get(p).copied().unwrap_or(false)
     }
 
-    pub fn set_in(&mut self, p: usize, now_in: bool) {
+    fn set_in(&mut self, p: usize, now_in: bool) {
         if let Some(place) = self.present.get_mut(p) {
             *place = now_in;
         }
     }
 
-    // Why the constraint `p` may not be added, if so.
-    fn add_refusal<C: Catalog>(&self, catalog: &C, p: usize) -> Option<Refusal> {
-        match catalog.ends(p) {
-            None => Some(Refusal::NoSuchConstraint),
-            Some((a, b)) if a >= self.sizes.len() || b >= self.sizes.len() => {
-                Some(Refusal::EndOutside)
-            }
-            Some(_) if self.is_in(p) => Some(Refusal::AlreadyIn),
-            Some(_) => None,
+    // May the constraint `p` be added, or why not?
+    fn may_add<C: Catalog>(&self, catalog: &C, p: usize) -> Result<(), Refusal> {
+        let (a, b) = catalog.ends(p).ok_or(Refusal::NoSuchConstraint)?;
+        if a >= self.sizes.len() || b >= self.sizes.len() {
+            Err(Refusal::EndOutside)
+        } else if self.is_in(p) {
+            Err(Refusal::AlreadyIn)
+        } else {
+            Ok(())
         }
     }
 
-    // Why the constraint `p` may not be added, or not retracted, if so.
-    pub fn refusal<C: Catalog>(&self, catalog: &C, p: usize, add: bool) -> Option<Refusal> {
-        if add {
-            self.add_refusal(catalog, p)
-        } else if p >= catalog.count() {
-            Some(Refusal::NoSuchConstraint)
-        } else if self.is_in(p) {
-            None
-        } else {
-            Some(Refusal::NotIn)
+    // Is the call to be accepted, or why not?
+    pub fn may<C: Catalog>(&self, catalog: &C, call: Call) -> Result<(), Refusal> {
+        match call {
+            Call::Add(p) => self.may_add(catalog, p),
+            Call::Retract(p) if p >= catalog.count() => Err(Refusal::NoSuchConstraint),
+            Call::Retract(p) if !self.is_in(p) => Err(Refusal::NotIn),
+            Call::Retract(_) => Ok(()),
+        }
+    }
+
+    // Notes a call that is accepted.
+    pub fn note(&mut self, call: Call) {
+        match call {
+            Call::Add(p) => self.set_in(p, true),
+            Call::Retract(p) => self.set_in(p, false),
         }
     }
 
     // The constraints that are in.
     pub fn indices(&self, heap: Global) -> Result<Vec<usize>, AllocError> {
-        let mut indices = Vec::new(heap);
-        for p in 0..128 {
-            if self.is_in(p) {
-                indices.push(p)?;
-            }
-        }
-        Ok(indices)
+        (0..128).filter(|p| self.is_in(*p)).collect(heap)
     }
 }

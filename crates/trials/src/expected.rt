@@ -9,27 +9,20 @@ use std::alloc::Global;
 pub fn domains<C: Catalog>(heap: Global, catalog: &C, book: &Book) -> Result<Vec<u64>, Trouble> {
     let indices = book.indices(heap)?;
     let mut domains = vec![in heap; 0; book.sizes.len()]?;
-    match largest_domains(catalog, &book.sizes, &indices, &mut domains) {
-        Ok(()) => Ok(domains),
-        Err(_) => Err(Trouble::Scratch),
-    }
+    largest_domains(catalog, &book.sizes, &indices, &mut domains).map_err(|_| Trouble::Scratch)?;
+    Ok(domains)
 }
 
 // The lowest variable with an empty domain.
 pub fn wiped_out(domains: &[u64]) -> Option<usize> {
-    for i in 0..domains.len() {
-        if domains[i] == 0 {
-            return Some(i);
-        }
-    }
-    None
+    domains.iter().position(|domain| *domain == 0)
 }
 
 // How many values are in the domains before and not after, or the other way round.
 pub fn differing(before: &[u64], after: &[u64]) -> u32 {
-    let mut n: u32 = 0;
-    for (a, b) in before.iter().zip(after) {
-        n = n.saturating_add((*a ^ *b).count_ones());
-    }
-    n
+    before
+        .iter()
+        .zip(after)
+        .map(|(a, b)| (*a ^ *b).count_ones())
+        .fold(0, |n: u32, more| n.saturating_add(more))
 }

@@ -1,5 +1,5 @@
 // What the network tells.
-use crate::book::Book;
+use crate::book::{Book, Call, Value};
 use crate::lent::Lent;
 use crate::told::{Account, Told};
 use crate::trouble::Trouble;
@@ -39,42 +39,47 @@ impl<'a, C: Catalog> First<'a, C> {
         self.network.open(sizes, time)
     }
 
-    pub fn add(&mut self, p: usize) -> Result<Change, Refusal> {
-        self.network.add(p, &mut self.waiting, &mut self.returning)
-    }
-
-    pub fn retract(&mut self, p: usize) -> Result<Change, Refusal> {
-        self.network
-            .retract(p, &mut self.waiting, &mut self.returning)
+    // Makes a call.
+    pub fn make(&mut self, call: Call) -> Result<Change, Refusal> {
+        let First {
+            network,
+            waiting,
+            returning,
+        } = self;
+        match call {
+            Call::Add(p) => network.add(p, waiting, returning),
+            Call::Retract(p) => network.retract(p, waiting, returning),
+        }
     }
 
     pub fn wiped_out(&self) -> Option<usize> {
         self.network.wiped_out()
     }
 
-    // Asks about the value `x` of `i`, and notes its account.
-    fn ask_value(&self, told: &mut Told, i: usize, x: usize) -> Result<(), Trouble> {
-        if self.network.is_shown(i, x)? != told.shows(i, x) {
+    // Asks about a value, and notes its account.
+    fn ask_value(&self, told: &mut Told, value: Value) -> Result<(), Trouble> {
+        let Value { variable, value: x } = value;
+        if self.network.is_shown(variable, x)? != told.shows(value) {
             return Err(Trouble::Shown);
         }
-        if let Some(why) = self.network.justification(i, x)? {
+        if let Some(why) = self.network.justification(variable, x)? {
             let account = Account {
-                constraint: why.constraint,
+                constraint: Some(why.constraint),
                 time: u64::from(why.time),
             };
-            told.set_account(i, x, Some(account));
+            told.set_account(value, account);
         }
         Ok(())
     }
 
     // Asks everything that can be asked.
     pub fn tell(&self, heap: Global, book: &Book) -> Result<Told, Trouble> {
-        let mut told = Told::new(heap)?;
+        let mut told = Told::new(heap);
         for i in 0..book.sizes.len() {
-            told.domains.push(self.network.domain(i)?)?;
-            for x in 0..book.size(i) {
-                self.ask_value(&mut told, i, x)?;
-            }
+            told.add_domain(self.network.domain(i)?)?;
+        }
+        for value in &book.values {
+            self.ask_value(&mut told, *value)?;
         }
         Ok(told)
     }

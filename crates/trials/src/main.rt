@@ -5,6 +5,7 @@
 mod book;
 mod expected;
 mod first;
+mod judge;
 mod lent;
 mod rests;
 mod second;
@@ -15,6 +16,7 @@ mod trouble;
 use catalog::joined::Joined;
 use catalog::renumbered::Renumbered;
 use house::HouseCatalog;
+use random::density::Density;
 use random::{Random, made};
 use samples::ladder::Ladder;
 use std::alloc::Global;
@@ -22,21 +24,10 @@ use std::io;
 use trial::{Shape, list};
 use trouble::Trouble;
 
-// The makes of catalogs.
-#[derive(Clone, Copy)]
-enum Make {
-    Tables,
-    Sums,
-    House,
-    Renumbered,
-    Joined,
-    Ladder,
-}
-
 fn tables(heap: Global, random: &mut Random, shape: Shape) -> Result<(), Trouble> {
     let shape = shape.narrowed(random);
     let count = random.between(1, 12);
-    let density = random.below(3);
+    let density = Density::from(random.below(3));
     let catalog = made::tables(random, count, shape.variables, density);
     list(heap, &catalog, random, shape)
 }
@@ -49,7 +40,7 @@ fn sums(heap: Global, random: &mut Random, shape: Shape) -> Result<(), Trouble> 
 }
 
 fn renumbered(heap: Global, random: &mut Random, shape: Shape) -> Result<(), Trouble> {
-    let catalog = made::tables(random, 10, shape.variables, 1);
+    let catalog = made::tables(random, 10, shape.variables, Density::Half);
     let numbering = made::numbering(random, shape.variables);
     list(heap, &Renumbered { catalog, numbering }, random, shape)
 }
@@ -59,7 +50,7 @@ fn joined(heap: Global, random: &mut Random, shape: Shape) -> Result<(), Trouble
     let catalog = made::sums(random, 4, shape.variables, shape.values);
     let numbering = made::numbering(random, shape.variables);
     let second = Joined {
-        first: made::tables(random, 4, shape.variables, 1),
+        first: made::tables(random, 4, shape.variables, Density::Half),
         second: HouseCatalog,
     };
     let first = Renumbered { catalog, numbering };
@@ -75,25 +66,14 @@ fn ladder(heap: Global, random: &mut Random, shape: Shape) -> Result<(), Trouble
     list(heap, &pile, random, shape)
 }
 
-impl Make {
-    // One list of calls on a catalog of this make.
-    fn trial(self, heap: Global, random: &mut Random, shape: Shape) -> Result<(), Trouble> {
-        match self {
-            Make::Tables => tables(heap, random, shape),
-            Make::Sums => sums(heap, random, shape),
-            Make::House => list(heap, &HouseCatalog, random, shape),
-            Make::Renumbered => renumbered(heap, random, shape),
-            Make::Joined => joined(heap, random, shape),
-            Make::Ladder => ladder(heap, random, shape),
-        }
-    }
+fn house(heap: Global, random: &mut Random, shape: Shape) -> Result<(), Trouble> {
+    list(heap, &HouseCatalog, random, shape)
 }
 
-// Lists of calls on catalogs of one make, from one seed.
+// Lists of calls, from one seed.
 #[derive(Clone, Copy)]
 struct Trials {
     name: &'static str,
-    make: Make,
     seed: u64,
     lists: usize,
     shape: Shape,
@@ -117,76 +97,103 @@ const LONG: Shape = Shape {
     calls: 19,
 };
 
-const ALL: [Trials; 6] = [
-    Trials {
-        name: "tables",
-        make: Make::Tables,
-        seed: 0x5eed_0001,
-        lists: 3000,
-        shape: SMALL,
-    },
-    Trials {
-        name: "sums",
-        make: Make::Sums,
-        seed: 0x5eed_0002,
-        lists: 3000,
-        shape: SMALL,
-    },
-    Trials {
-        name: "renumbered",
-        make: Make::Renumbered,
-        seed: 0x5eed_0003,
-        lists: 1500,
-        shape: SMALL,
-    },
-    Trials {
-        name: "house",
-        make: Make::House,
-        seed: 0x5eed_0004,
-        lists: 60,
-        shape: WIDE,
-    },
-    Trials {
-        name: "joined",
-        make: Make::Joined,
-        seed: 0x5eed_0005,
-        lists: 40,
-        shape: WIDE,
-    },
-    Trials {
-        name: "ladder",
-        make: Make::Ladder,
-        seed: 0x5eed_0006,
-        lists: 20,
-        shape: LONG,
-    },
-];
-
-// Performs the trials and prints what came of them; says whether all agreed.
-fn perform(rt: &HostRuntime, trials: Trials) -> io::Result<bool> {
-    let name = trials.name;
-    let lists = trials.lists;
-    let calls = trials.shape.all_calls();
-    let mut random = Random::new(trials.seed);
-    for number in 0..lists {
-        if let Err(trouble) = trials.make.trial(rt.alloc(), &mut random, trials.shape) {
-            println!(rt; "{name}: list {number}: {trouble:?}")?;
-            return Ok(false);
-        }
-    }
-    println!(rt; "{name}: {lists} lists of {calls} calls")?;
-    Ok(true)
+// So many lists and calls so far, and whether all agreed.
+#[derive(Clone, Copy)]
+struct Total {
+    lists: usize,
+    calls: usize,
+    agreed: bool,
 }
 
-fn main(rt: HostRuntime) -> io::Result<()> {
-    let mut lists: usize = 0;
-    let mut calls: usize = 0;
-    let mut agreed = true;
-    for trials in &ALL {
-        agreed = perform(&rt, *trials)? && agreed;
-        lists = lists.wrapping_add(trials.lists);
-        calls = calls.wrapping_add(trials.lists.wrapping_mul(trials.shape.all_calls()));
+impl Total {
+    // Performs the trials, each list on a catalog of that make, prints what came of them, and adds them to what there were so far.
+    fn perform<F: Fn(Global, &mut Random, Shape) -> Result<(), Trouble>>(
+        &mut self,
+        rt: &HostRuntime,
+        trials: Trials,
+        make: F,
+    ) -> io::Result<()>
+        requires { F.IsAlwaysCallable make }
+    {
+        let Trials {
+            name,
+            seed,
+            lists,
+            shape,
+        } = trials;
+        let calls = shape.all_calls();
+        self.lists = self.lists.wrapping_add(lists);
+        self.calls = self.calls.wrapping_add(lists.wrapping_mul(calls));
+        let mut random = Random::new(seed);
+        for number in 0..lists {
+            if let Err(trouble) = make(rt.alloc(), &mut random, shape) {
+                self.agreed = false;
+                return println!(rt; "{name}: list {number}: {trouble:?}");
+            }
+        }
+        println!(rt; "{name}: {lists} lists of {calls} calls")
     }
+}
+
+const TABLES: Trials = Trials {
+    name: "tables",
+    seed: 0x5eed_0001,
+    lists: 3000,
+    shape: SMALL,
+};
+
+const SUMS: Trials = Trials {
+    name: "sums",
+    seed: 0x5eed_0002,
+    lists: 3000,
+    shape: SMALL,
+};
+
+const RENUMBERED: Trials = Trials {
+    name: "renumbered",
+    seed: 0x5eed_0003,
+    lists: 1500,
+    shape: SMALL,
+};
+
+const HOUSE: Trials = Trials {
+    name: "house",
+    seed: 0x5eed_0004,
+    lists: 60,
+    shape: WIDE,
+};
+
+const JOINED: Trials = Trials {
+    name: "joined",
+    seed: 0x5eed_0005,
+    lists: 40,
+    shape: WIDE,
+};
+
+const LADDER: Trials = Trials {
+    name: "ladder",
+    seed: 0x5eed_0006,
+    lists: 20,
+    shape: LONG,
+};
+
+fn main(rt: HostRuntime) -> io::Result<()> {
+    let mut total = Total {
+        lists: 0,
+        calls: 0,
+        agreed: true,
+    };
+    total.perform(&rt, TABLES, tables)?;
+    total.perform(&rt, SUMS, sums)?;
+    total.perform(&rt, RENUMBERED, renumbered)?;
+    total.perform(&rt, HOUSE, house)?;
+    total.perform(&rt, JOINED, joined)?;
+    total.perform(&rt, LADDER, ladder)?;
+    let Total {
+        lists,
+        calls,
+        agreed,
+    } = total;
     if agreed {
         println!(rt; "{lists} lists, {calls} calls: all agreed")
     } else {

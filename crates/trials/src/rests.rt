@@ -1,105 +1,81 @@
 // Which justifications rest on a constraint, worked out from the definition; and which are to be kept.
-use crate::book::Book;
-use crate::told::{Account, Told, fits, other_end};
+use crate::book::Value;
+use crate::judge::Judge;
+use crate::told::Told;
 use catalog::Catalog;
 use std::alloc::{AllocError, Global};
 
 // Of each variable, the values whose justification is known to rest on the constraint.
-type Resting = Vec<u64>;
-
-fn is_resting(resting: &Resting, i: usize, x: usize) -> bool {
-    bits::has(resting.get(i).copied().unwrap_or(0), x)
+#[derive(Drop)]
+pub struct Resting {
+    values: Vec<u64>,
 }
 
-// Does a value that is out with this account rest on `p`, as far as is known: does the account name `p`, or is there a support under its
-// constraint that rests on it?
-fn rests<C: Catalog>(
-    catalog: &C,
-    book: &Book,
-    resting: &Resting,
-    i: usize,
-    x: usize,
-    account: Account,
-    p: Option<usize>,
-) -> bool {
-    let Some(j) = other_end(catalog, account.constraint, i) else {
-        return false;
-    };
-    for y in 0..book.size(j) {
-        if fits(catalog, account.constraint, i, x, y) && is_resting(resting, j, y) {
-            return true;
+impl Resting {
+    fn has(&self, value: Value) -> bool {
+        self.values
+            .get(value.variable)
+            .is_some_and(|values| bits::has(*values, value.value))
+    }
+
+    // Notes that the value rests.
+    fn note(&mut self, value: Value) {
+        if let Some(values) = self.values.get_mut(value.variable) {
+            *values = bits::with(*values, value.value);
         }
     }
-    p == Some(account.constraint)
 }
 
-// Notes that the value rests, and says whether that is new.
-fn note(resting: &mut Resting, i: usize, x: usize) -> bool {
-    if is_resting(resting, i, x) {
-        return false;
+impl<C: Catalog> Judge<'_, C> {
+    // Does the value's justification rest on `p`, as far as is known: does it name `p`, or is there a support under its constraint that rests on it?
+    fn rests(&self, resting: &Resting, value: Value, p: Option<usize>) -> bool {
+        let Some(constraint) = self
+            .told
+            .account(value)
+            .and_then(|account| account.constraint)
+        else {
+            return false;
+        };
+        let Some(variable) = self.other_end(constraint, value.variable) else {
+            return false;
+        };
+        let supports = |y| {
+            let other = Value { variable, value: y };
+            resting.has(other) && self.fits(constraint, value, y)
+        };
+        p == Some(constraint) || (0..self.book.size(variable)).any(supports)
     }
-    if let Some(values) = resting.get_mut(i) {
-        *values = bits::with(*values, x);
-    }
-    true
-}
 
-// Notes each value that is now seen to rest on `p`, and says whether there was a new one.
-fn sweep<C: Catalog>(
-    catalog: &C,
-    book: &Book,
-    told: &Told,
-    resting: &mut Resting,
-    p: Option<usize>,
-) -> bool {
-    let mut more = false;
-    for i in 0..book.sizes.len() {
-        for x in 0..book.size(i) {
-            if let Some(account) = told.account(i, x) {
-                if rests(catalog, book, resting, i, x, account, p) && note(resting, i, x) {
-                    more = true;
-                }
+    // Notes each value that is now seen to rest on `p`, and says whether there was a new one.
+    fn sweep(&self, resting: &mut Resting, p: Option<usize>) -> bool {
+        let mut more = false;
+        for value in &self.book.values {
+            if !resting.has(*value) && self.rests(resting, *value, p) {
+                resting.note(*value);
+                more = true;
             }
         }
+        more
     }
-    more
-}
 
-// The values whose justification rests on `p`, if there is one.
-pub fn resting_on<C: Catalog>(
-    heap: Global,
-    catalog: &C,
-    book: &Book,
-    told: &Told,
-    p: Option<usize>,
-) -> Result<Resting, AllocError> {
-    let mut resting = vec![in heap; 0; book.sizes.len()]?;
-    // each sweep but the last notes one of at most 2,048 values
-    for _ in 0..2049 {
-        if !sweep(catalog, book, told, &mut resting, p) {
-            break;
-        }
-    }
-    Ok(resting)
-}
-
-// Has each value that was out before the call, and whose justification does not rest on what is retracted, the same justification after?
-pub fn kept(book: &Book, before: &Told, after: &Told, resting: &Resting) -> bool {
-    for i in 0..book.sizes.len() {
-        for x in 0..book.size(i) {
-            if !is_resting(resting, i, x) && !same(before.account(i, x), after.account(i, x)) {
-                return false;
+    // The values whose justification rests on `p`, if there is one.
+    pub fn resting_on(&self, heap: Global, p: Option<usize>) -> Result<Resting, AllocError> {
+        let values = vec![in heap; 0; self.book.sizes.len()]?;
+        let mut resting = Resting { values };
+        // each sweep but the last notes one of at most 2,048 values
+        for _ in 0..2049 {
+            if !self.sweep(&mut resting, p) {
+                break;
             }
         }
+        Ok(resting)
     }
-    true
-}
 
-// Is the account of a value that was out still there?
-fn same(before: Option<Account>, after: Option<Account>) -> bool {
-    match (before, after) {
-        (None, _) => true,
-        (Some(a), Some(b)) => a.constraint == b.constraint && a.time == b.time,
-        (Some(_), None) => false,
+    // Has each value that was out when this was told, and whose justification does not rest on what is retracted, the same justification after?
+    pub fn kept(&self, after: &Told, resting: &Resting) -> bool {
+        self.book.values.iter().all(|value| {
+            let before = self.told.account(*value);
+            before.is_none() || resting.has(*value) || before == after.account(*value)
+        })
     }
 }

@@ -1,48 +1,44 @@
 // What the second solver tells.
-use crate::book::Book;
-use crate::told::{Account, Told, accounts_for, other_end};
+use crate::book::{Book, Value};
+use crate::judge::Judge;
+use crate::told::{Account, Told};
 use acdc2::Solver;
+use acdc2::state::Justification;
 use catalog::Catalog;
 use std::alloc::{AllocError, Global};
 
-// The domains and times, with a constraint that does not exist in each account.
+// The domains and times, with no constraint in any account.
 fn times<C: Catalog>(
     heap: Global,
     book: &Book,
     solver: &Solver<'_, C>,
 ) -> Result<Told, AllocError> {
-    let mut told = Told::new(heap)?;
+    let mut told = Told::new(heap);
     for i in 0..book.sizes.len() {
-        told.domains.push(solver.domain(i))?;
-        for x in 0..book.size(i) {
-            if let Some((_, time)) = solver.justification(i, x) {
-                let constraint = usize::MAX;
-                told.set_account(i, x, Some(Account { constraint, time }));
-            }
+        told.add_domain(solver.domain(i))?;
+    }
+    for value in &book.values {
+        if let Some(Justification { time, .. }) = solver.justification(
+            value.variable,
+            value.value,
+        ) {
+            let constraint = None;
+            told.set_account(*value, Account { constraint, time });
         }
     }
     Ok(told)
 }
 
-// A constraint to the neighbour that accounts for the value `x` of `i` being out since that time.
+// The first constraint to the neighbour that accounts for the value being out, if any does.
 fn accountable<C: Catalog>(
-    catalog: &C,
-    book: &Book,
-    told: &Told,
-    i: usize,
-    x: usize,
-    neighbour: usize,
-    time: u64,
-) -> Option<Account> {
-    for constraint in 0..128 {
-        let account = Account { constraint, time };
-        if other_end(catalog, constraint, i) == Some(neighbour)
-            && accounts_for(catalog, book, told, i, x, account)
-        {
-            return Some(account);
-        }
-    }
-    None
+    judge: &Judge<'_, C>,
+    value: Value,
+    why: Justification,
+) -> Option<usize> {
+    (0..128).find(|p| {
+        judge.other_end(*p, value.variable) == Some(why.neighbour)
+            && judge.accounts_for(value, *p, why.time)
+    })
 }
 
 // The solver names only the neighbour of a value that is out: the account is the first constraint to that neighbour that holds, if any does.
@@ -53,14 +49,16 @@ pub fn told_by<C: Catalog>(
     solver: &Solver<'_, C>,
 ) -> Result<Told, AllocError> {
     let mut told = times(heap, book, solver)?;
-    for i in 0..book.sizes.len() {
-        for x in 0..book.size(i) {
-            if let Some((neighbour, time)) = solver.justification(i, x) {
-                let account = accountable(catalog, book, &told, i, x, neighbour, time);
-                if account.is_some() {
-                    told.set_account(i, x, account);
-                }
-            }
+    for value in &book.values {
+        if let Some(why) = solver.justification(value.variable, value.value) {
+            let judge = Judge {
+                catalog,
+                book,
+                told: &told,
+            };
+            let constraint = accountable(&judge, *value, why);
+            let time = why.time;
+            told.set_account(*value, Account { constraint, time });
         }
     }
     Ok(told)

@@ -1,8 +1,8 @@
 // One list of calls: after each of them every party is to tell the same.
-use crate::book::Book;
+use crate::book::{Book, Call};
 use crate::first::First;
-use crate::rests::{kept, resting_on};
-use crate::told::{Told, justified, times_differ};
+use crate::judge::Judge;
+use crate::told::Told;
 use crate::trouble::Trouble;
 use crate::{expected, second};
 use acdc2::Solver;
@@ -30,21 +30,16 @@ impl Shape {
     pub fn narrowed(self, random: &mut Random) -> Shape {
         Shape {
             variables: random.between(2, self.variables),
-            values: self.values,
-            calls: self.calls,
+            ..self
         }
     }
-}
 
-// Sizes for as many variables, or now and then for one fewer.
-fn draw_sizes(heap: Global, random: &mut Random, shape: Shape) -> Result<Vec<usize>, AllocError> {
-    let fewer = random.below(12) / 10;
-    let n = shape.variables.clamp(2, 32) - fewer;
-    let mut sizes = Vec::new(heap);
-    for _ in 0..n {
-        sizes.push(random.between(1, shape.values))?;
+    // Sizes for as many variables, or now and then for one fewer.
+    fn draw_sizes(self, heap: Global, random: &mut Random) -> Result<Vec<usize>, AllocError> {
+        let fewer = random.below(12) / 10;
+        let n = self.variables.clamp(2, 32) - fewer;
+        (0..n).map(|_| random.between(1, self.values)).collect(heap)
     }
-    Ok(sizes)
 }
 
 // A constraint to add or retract: mostly one that there is.
@@ -53,11 +48,15 @@ fn draw_constraint<C: Catalog>(catalog: &C, random: &mut Random) -> usize {
     random.below(catalog.count() + 2 * past)
 }
 
-// A call: a constraint, and whether it is to be added or retracted.
-#[derive(Clone, Copy)]
-struct Call {
-    constraint: usize,
-    add: bool,
+// A call: mostly what is out is added and what is in retracted.
+fn draw_call<C: Catalog>(catalog: &C, random: &mut Random, book: &Book) -> Call {
+    let p = draw_constraint(catalog, random);
+    let usual = random.below(8) != 0;
+    if book.is_in(p) != usual {
+        Call::Add(p)
+    } else {
+        Call::Retract(p)
+    }
 }
 
 // The book that the trials keep, what stood after the last call by the computation from scratch and by the network, and the second solver.
@@ -75,13 +74,19 @@ fn check_second<C: Catalog>(
     catalog: &C,
     book: &Book,
     solver: &Solver<'_, C>,
-    domains: &Vec<u64>,
+    domains: &[u64],
 ) -> Result<(), Trouble> {
-    let told = second::told_by(heap, catalog, book, solver)?;
-    if told.domains != *domains {
+    let told = &second::told_by(heap, catalog, book, solver)?;
+    if !told.has_domains(domains) {
         return Err(Trouble::SecondDomains);
     }
-    if !justified(catalog, book, &told) {
+    if !(Judge {
+        catalog,
+        book,
+        told,
+    })
+    .justified()
+    {
         return Err(Trouble::SecondJustification);
     }
     Ok(())
@@ -90,69 +95,38 @@ fn check_second<C: Catalog>(
 // Does the network tell these domains, with every value that is out justified?
 fn check_first<C: Catalog>(
     heap: Global,
-    catalog: &C,
-    book: &Book,
-    told: &Told,
-    domains: &Vec<u64>,
+    judge: &Judge<'_, C>,
+    domains: &[u64],
     wiped: Option<usize>,
 ) -> Result<(), Trouble> {
-    if told.domains != *domains {
+    if !judge.told.has_domains(domains) {
         return Err(Trouble::Domains);
     }
     if wiped != expected::wiped_out(domains) {
         return Err(Trouble::WipedOut);
     }
-    if !justified(catalog, book, told) {
+    if !judge.justified() {
         return Err(Trouble::Justification);
     }
-    if !times_differ(heap, book, told)? {
+    if !judge.times_differ(heap)? {
         return Err(Trouble::Times);
     }
     Ok(())
-}
-
-// Opens the network, and the second solver with it.
-fn open<'a, C: Catalog>(
-    heap: Global,
-    catalog: &'a C,
-    first: &mut First<'_, C>,
-    sizes: Vec<usize>,
-    time: u32,
-) -> Result<Parties<'a, C>, Trouble> {
-    first.open(&sizes, time)?;
-    let solver = Solver::open(heap, catalog, &sizes)?;
-    let book = Book::open(heap, sizes)?;
-    let domains = expected::domains(heap, catalog, &book)?;
-    let told = first.tell(heap, &book)?;
-    check_first(heap, catalog, &book, &told, &domains, first.wiped_out())?;
-    check_second(heap, catalog, &book, &solver, &domains)?;
-    Ok(Parties {
-        book,
-        domains,
-        told,
-        solver,
-    })
 }
 
 // Is the network's answer the one that is due: refused by the cause that the book gives, or with the number of values that went or came back, and the
 // wiped-out variable?
 fn check_answer(
     answer: Result<Change, Refusal>,
-    due: Option<Refusal>,
+    due: Result<(), Refusal>,
     values: u32,
     wiped: Option<usize>,
 ) -> Result<(), Trouble> {
     match (answer, due) {
-        (Ok(change), None) => {
-            if change.values != values {
-                return Err(Trouble::Count);
-            }
-            if change.wiped != wiped {
-                return Err(Trouble::WipedOut);
-            }
-            Ok(())
-        }
-        (Err(cause), Some(other)) if cause == other => Ok(()),
+        (Ok(change), Ok(())) if change.values != values => Err(Trouble::Count),
+        (Ok(change), Ok(())) if change.wiped != wiped => Err(Trouble::WipedOut),
+        (Ok(_), Ok(())) => Ok(()),
+        (Err(cause), Err(other)) if cause == other => Ok(()),
         _ => Err(Trouble::Cause),
     }
 }
@@ -160,14 +134,12 @@ fn check_answer(
 // The justifications that do not rest on what is retracted are to be kept: all of them where nothing is.
 fn check_kept<C: Catalog>(
     heap: Global,
-    catalog: &C,
-    book: &Book,
-    before: &Told,
+    before: &Judge<'_, C>,
     after: &Told,
     retracted: Option<usize>,
 ) -> Result<(), Trouble> {
-    let resting = resting_on(heap, catalog, book, before, retracted)?;
-    if kept(book, before, after, &resting) {
+    let resting = before.resting_on(heap, retracted)?;
+    if before.kept(after, &resting) {
         Ok(())
     } else {
         Err(Trouble::Kept)
@@ -181,10 +153,9 @@ fn call_second<C: Catalog>(
     call: Call,
     accepted: bool,
 ) -> Result<(), Trouble> {
-    let done = if call.add {
-        solver.add(call.constraint)
-    } else {
-        solver.retract(heap, call.constraint)?
+    let done = match call {
+        Call::Add(p) => solver.add(p),
+        Call::Retract(p) => solver.retract(heap, p)?,
     };
     if done == accepted {
         Ok(())
@@ -193,74 +164,92 @@ fn call_second<C: Catalog>(
     }
 }
 
-// Makes one call of every party, and compares.
-fn perform<C: Catalog>(
+// A network on a catalog, and the memory for the trial.
+#[derive(Drop)]
+struct Trial<'a, C> {
     heap: Global,
-    catalog: &C,
-    first: &mut First<'_, C>,
-    parties: &mut Parties<'_, C>,
-    call: Call,
-) -> Result<(), Trouble> {
-    let p = call.constraint;
-    let due = parties.book.refusal(catalog, p, call.add);
-    let answer = if call.add {
-        first.add(p)
-    } else {
-        first.retract(p)
-    };
-    call_second(heap, &mut parties.solver, call, due.is_none())?;
-    let told = first.tell(heap, &parties.book)?;
-    let retracted = if call.add || due.is_some() {
-        None
-    } else {
-        Some(p)
-    };
-    check_kept(
-        heap,
-        catalog,
-        &parties.book,
-        &parties.told,
-        &told,
-        retracted,
-    )?;
-    if due.is_none() {
-        parties.book.set_in(p, call.add);
-    }
-    let domains = expected::domains(heap, catalog, &parties.book)?;
-    let values = expected::differing(&parties.domains, &domains);
-    check_answer(answer, due, values, expected::wiped_out(&domains))?;
-    check_first(
-        heap,
-        catalog,
-        &parties.book,
-        &told,
-        &domains,
-        first.wiped_out(),
-    )?;
-    check_second(heap, catalog, &parties.book, &parties.solver, &domains)?;
-    parties.domains = domains;
-    parties.told = told;
-    Ok(())
+    catalog: &'a C,
+    first: First<'a, C>,
 }
 
-// Opens the network and makes calls: mostly what is out is added and what is in retracted.
-fn calls<C: Catalog>(
-    heap: Global,
-    catalog: &C,
-    first: &mut First<'_, C>,
-    random: &mut Random,
-    shape: Shape,
-) -> Result<(), Trouble> {
-    let sizes = draw_sizes(heap, random, shape)?;
-    let time = random.below(4_000_000_000) as u32;
-    let mut parties = open(heap, catalog, first, sizes, time)?;
-    for _ in 0..shape.calls {
-        let constraint = draw_constraint(catalog, random);
-        let usual = random.below(8) != 0;
-        let add = parties.book.is_in(constraint) != usual;
-        perform(heap, catalog, first, &mut parties, Call { constraint, add })?;
+impl<'a, C: Catalog> Trial<'a, C> {
+    // Opens the network, and the second solver with it.
+    fn open(&mut self, sizes: Vec<usize>, time: u32) -> Result<Parties<'a, C>, Trouble> {
+        let heap = self.heap;
+        let catalog = self.catalog;
+        self.first.open(&sizes, time)?;
+        let solver = Solver::open(heap, catalog, &sizes)?;
+        let book = Book::open(heap, sizes)?;
+        let domains = expected::domains(heap, catalog, &book)?;
+        let told = self.first.tell(heap, &book)?;
+        self.check(&book, &told, &solver, &domains)?;
+        Ok(Parties {
+            book,
+            domains,
+            told,
+            solver,
+        })
     }
-    Ok(())
+
+    // Do both solvers tell these domains, with every value that is out justified?
+    fn check(
+        &self,
+        book: &Book,
+        told: &Told,
+        solver: &Solver<'_, C>,
+        domains: &[u64],
+    ) -> Result<(), Trouble> {
+        let catalog = self.catalog;
+        let judge = Judge {
+            catalog,
+            book,
+            told,
+        };
+        check_first(self.heap, &judge, domains, self.first.wiped_out())?;
+        check_second(self.heap, catalog, book, solver, domains)
+    }
+
+    // Makes one call of every party, and compares.
+    fn perform(&mut self, parties: &mut Parties<'a, C>, call: Call) -> Result<(), Trouble> {
+        let heap = self.heap;
+        let catalog = self.catalog;
+        let due = parties.book.may(catalog, call);
+        let answer = self.first.make(call);
+        call_second(heap, &mut parties.solver, call, due.is_ok())?;
+        let told = self.first.tell(heap, &parties.book)?;
+        let retracted = match call {
+            Call::Retract(p) if due.is_ok() => Some(p),
+            _ => None,
+        };
+        let before = Judge {
+            catalog,
+            book: &parties.book,
+            told: &parties.told,
+        };
+        check_kept(heap, &before, &told, retracted)?;
+        if due.is_ok() {
+            parties.book.note(call);
+        }
+        let domains = expected::domains(heap, catalog, &parties.book)?;
+        let values = expected::differing(&parties.domains, &domains);
+        check_answer(answer, due, values, expected::wiped_out(&domains))?;
+        self.check(&parties.book, &told, &parties.solver, &domains)?;
+        parties.domains = domains;
+        parties.told = told;
+        Ok(())
+    }
+
+    // Opens the network and makes calls.
+    fn calls(&mut self, random: &mut Random, shape: Shape) -> Result<(), Trouble> {
+        let sizes = shape.draw_sizes(self.heap, random)?;
+        let time = random.below(4_000_000_000) as u32;
+        let mut parties = self.open(sizes, time)?;
+        for _ in 0..shape.calls {
+            let call = draw_call(self.catalog, random, &parties.book);
+            self.perform(&mut parties, call)?;
+        }
+        Ok(())
+    }
 }
 
 // Makes a network, and twice opens it and makes calls.
@@ -270,7 +259,12 @@ pub fn list<C: Catalog>(
     random: &mut Random,
     shape: Shape,
 ) -> Result<(), Trouble> {
-    let mut first = First::new(heap, catalog)?;
-    calls(heap, catalog, &mut first, random, shape)?;
-    calls(heap, catalog, &mut first, random, shape)
+    let first = First::new(heap, catalog)?;
+    let mut trial = Trial {
+        heap,
+        catalog,
+        first,
+    };
+    trial.calls(random, shape)?;
+    trial.calls(random, shape)
 }

@@ -1,0 +1,78 @@
+// Whether the justifications that a solver tells are right, judged from the definition.
+use crate::book::{Book, Value};
+use crate::told::Told;
+use catalog::Catalog;
+use std::alloc::{AllocError, Global};
+
+// What a solver told, and by what it is judged.
+#[derive(Drop)]
+pub struct Judge<'a, C> {
+    pub catalog: &'a C,
+    pub book: &'a Book,
+    pub told: &'a Told,
+}
+
+impl<C: Catalog> Judge<'_, C> {
+    // Does the constraint `p` allow the value beside `y` of the other end?
+    pub fn fits(&self, p: usize, value: Value, y: usize) -> bool {
+        match self.catalog.ends(p) {
+            Some((a, _)) if a == value.variable => self.catalog.allows(p, value.value, y),
+            Some((_, b)) if b == value.variable => self.catalog.allows(p, y, value.value),
+            _ => false,
+        }
+    }
+
+    // The other end of the constraint `p`, if `i` is an end.
+    pub fn other_end(&self, p: usize, i: usize) -> Option<usize> {
+        match self.catalog.ends(p)? {
+            (a, b) if a == i => Some(b),
+            (a, b) if b == i => Some(a),
+            _ => None,
+        }
+    }
+
+    // Does the constraint `p` account for the value being out since `time`: is it in, does it tie the value's variable, and is each opposite value
+    // that it allows beside the value out since before?
+    pub fn accounts_for(&self, value: Value, p: usize, time: u64) -> bool {
+        let Some(variable) = self.other_end(p, value.variable) else {
+            return false;
+        };
+        let goes_before = |y| {
+            let other = Value { variable, value: y };
+            !self.fits(p, value, y) || self.told.out_before(other, time)
+        };
+        self.book.is_in(p) && (0..self.book.size(variable)).all(goes_before)
+    }
+
+    // Is the value shown and without an account, or out with one that holds?
+    fn value_justified(&self, value: Value) -> bool {
+        let shown = self.told.shows(value);
+        let Some(account) = self.told.account(value) else {
+            return shown;
+        };
+        !shown
+            && account
+                .constraint
+                .is_some_and(|p| self.accounts_for(value, p, account.time))
+    }
+
+    // Is each value shown and without an account, or out with one that holds?
+    pub fn justified(&self) -> bool {
+        self.book
+            .values
+            .iter()
+            .all(|value| self.value_justified(*value))
+    }
+
+    // Have no two accounts the same time?
+    pub fn times_differ(&self, heap: Global) -> Result<bool, AllocError> {
+        let accounts = self
+            .book
+            .values
+            .iter()
+            .filter_map(|value| self.told.account(*value));
+        let mut times: Vec<u64> = accounts.map(|account| account.time).collect(heap)?;
+        times.sort_unstable();
+        Ok(times.array_windows::<2>().all(|[a, b]| a != b))
+    }
+}
