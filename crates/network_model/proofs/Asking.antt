@@ -1,6 +1,6 @@
 -- Refused calls and askings, by what the code tests.
-use Rattle.std.proofs.Common.{◌≡◌, ℕ, ◌<◌, ◌≤◌, Bool, true, false, cond, not, ◌&&◌, ltb, ◌⊎◌, length, get_or, take, Some, None, Option, sym, refl, ap, ◌∙◌, subst, ⊎_elim}
-use Rattle.std.proofs.lemmas.Bool.{and_from, and_left, and_right, lt-ltb, le-ltb}
+use Rattle.std.proofs.Common.{◌≡◌, ℕ, ◌<◌, ◌≤◌, Bool, true, false, cond, not, ◌&&◌, ltb, length, get_or, take, Some, None, Option, sym, refl, ap, ◌∙◌, subst, arith}
+use Rattle.std.proofs.lemmas.Bool.{and_parts, lt-ltb, le-ltb, not-false}
 use Rattle.arcs.specs.WipedOut.{WipedOut}
 use Rattle.bits.specs.Bits.{has_bit}
 use Rattle.catalog.specs.Meaning.{Meaning, Lawful}
@@ -16,13 +16,18 @@ use Rattle.network_law.specs.declared.Answer.{Answer}
 use Rattle.network_law.specs.declared.Answer.TheVariants.{Domain, Shown, Justified, Wiped, Refused}
 use Rattle.network_law.specs.Moment.{Agrees, Right}
 use Rattle.network_law.specs.Calls.{Call, asks_domain, asks_shown, asks_justification, asks_wiped}
-use Rattle.network_law.specs.Refusals.{refusal, next, spent}
+use Rattle.network_law.specs.Refusals.{refusal, next, spent, when}
 use Rattle.network_law.specs.Step.{Answered}
 use Rattle.network_model.specs.declared.State.{State}
 use Rattle.network_model.specs.Model.{Linked, moment_of}
-use Rattle.network_model.specs.Performs.{Took}
+use Rattle.network_model.specs.Performs.{Took, value_cause}
 use Rattle.network_model.proofs.Link.{same_size, variables_are}
 use Rattle.network_model.proofs.Steps.{right_here, step_refused, step_asked, agrees_refl}
+
+-- a cause that does not hold
+pub when_none : (b : Bool) (e : Refusal) → when b e ≡ None → b ≡ false
+when_none true e h = let z : ◌≡◌ {A = ℕ} 0 1 = cc in absurd (omega arith)
+when_none false e h = refl
 
 -- the constraints and domains of a state stand rightly
 pub stands_in : (s : State) → Stands s.engine.constraints s.engine.domains
@@ -69,41 +74,29 @@ module _ (m : Meaning) (lawful : Lawful m) (s : State) (linked : Linked m s) whe
       asked asks_wiped (Wiped o) refl (agrees_refl (moment_of s).book) (refl, (o, refl, subst (λ n. WipedOut (shown s.engine.domains) n o) (sym as_many) w))
 
   module _ (i x : ℕ) where
-    inside : Bool
-    inside = ltb i (length (moment_of s).book.sizes) && ltb x (get_or (moment_of s).book.sizes i 0)
+    -- the cause that the law gives is the one that the state gives
+    cause : when (not (ltb i (length (moment_of s).book.sizes) && ltb x (get_or (moment_of s).book.sizes i 0))) NoSuchValue ≡ value_cause s i x
+    cause =
+        ap (λ n. when (not (ltb i n && ltb x (get_or (moment_of s).book.sizes i 0))) NoSuchValue) as_many
+        ∙ ap (λ z. when (not (ltb i s.variables && ltb x z)) NoSuchValue) (size i)
 
-    is_inside : i < s.variables → x < get_or s.engine.constraints.sizes i 0 → inside ≡ true
-    unfolding inside
-    is_inside h l = and_from (ltb i (length (moment_of s).book.sizes)) (ltb x (get_or (moment_of s).book.sizes i 0)) (there i h) (ap (ltb x) (size i) ∙ lt-ltb x (get_or s.engine.constraints.sizes i 0) l)
+    pub shown_no : (e : Refusal) → Some e ≡ value_cause s i x → Took m s (asks_shown i x) (Refused e) s
+    shown_no e why = refused (asks_shown i x) e (cause ∙ sym why)
 
-    no_variable : s.variables ≤ i → inside ≡ false
-    unfolding inside
-    no_variable h = and_left (ltb i (length (moment_of s).book.sizes)) (ltb x (get_or (moment_of s).book.sizes i 0)) (nowhere i h)
+    pub shown_yes : (b : Bool) → None ≡ value_cause s i x → b ≡ shown s.engine.domains i x → Took m s (asks_shown i x) (Shown b) s
+    shown_yes b none e = asked (asks_shown i x) (Shown b) (cause ∙ sym none) (agrees_refl (moment_of s).book) (refl, ap Shown e)
 
-    too_large : get_or s.engine.constraints.sizes i 0 ≤ x → inside ≡ false
-    unfolding inside
-    too_large h = and_right (ltb i (length (moment_of s).book.sizes)) (ltb x (get_or (moment_of s).book.sizes i 0)) (ap (ltb x) (size i) ∙ le-ltb x (get_or s.engine.constraints.sizes i 0) h)
-
-    pub shown_no : (e : Refusal) → e ≡ NoSuchValue → (s.variables ≤ i) ⊎ (get_or s.engine.constraints.sizes i 0 ≤ x) → Took m s (asks_shown i x) (Refused e) s
-    unfolding inside
-    shown_no e is why = refused (asks_shown i x) e (no_value inside (⊎_elim no_variable too_large why) ∙ ap Some (sym is))
-
-    pub shown_yes : (b : Bool) → i < s.variables → x < get_or s.engine.constraints.sizes i 0 → b ≡ shown s.engine.domains i x → Took m s (asks_shown i x) (Shown b) s
-    unfolding inside
-    shown_yes b h l e = asked (asks_shown i x) (Shown b) (a_value inside (is_inside h l)) (agrees_refl (moment_of s).book) (refl, ap Shown e)
-
-    pub why_no : (e : Refusal) → e ≡ NoSuchValue → (s.variables ≤ i) ⊎ (get_or s.engine.constraints.sizes i 0 ≤ x) → Took m s (asks_justification i x) (Refused e) s
-    unfolding inside
-    why_no e is why = refused (asks_justification i x) e (no_value inside (⊎_elim no_variable too_large why) ∙ ap Some (sym is))
+    pub why_no : (e : Refusal) → Some e ≡ value_cause s i x → Took m s (asks_justification i x) (Refused e) s
+    why_no e why = refused (asks_justification i x) e (cause ∙ sym why)
 
     pub why_yes
-        : (o : Option Justification) → i < s.variables → x < get_or s.engine.constraints.sizes i 0
+        : (o : Option Justification) → None ≡ value_cause s i x
         → o ≡ justification_of s.engine.constraints s.engine.domains i x → Took m s (asks_justification i x) (Justified o) s
-    unfolding inside
-    why_yes o h l e =
-        let low : within s.engine.constraints i x ≡ true = lt-ltb x (get_or s.engine.constraints.sizes i 0) l in
+    why_yes o none e =
+        let here : Bool = ltb i s.variables && ltb x (get_or s.engine.constraints.sizes i 0) in
+        let low : within s.engine.constraints i x ≡ true = (and_parts (ltb i s.variables) _ (not-false here (when_none (not here) NoSuchValue (sym none)))).1 in
         let why : Option Justification = Some (record { constraint = (standing s.engine.domains).reason i x; time = (standing s.engine.domains).time i x }) in
-        asked (asks_justification i x) (Justified o) (a_value inside (is_inside h l)) (agrees_refl (moment_of s).book)
+        asked (asks_justification i x) (Justified o) (cause ∙ sym none) (agrees_refl (moment_of s).book)
         (refl, ap Justified (e ∙ ap (λ b. cond (b && not (shown s.engine.domains i x)) why None) low ∙ turned (shown s.engine.domains i x) why))
       where
         turned : (b : Bool) (w : Option Justification) → cond (not b) w None ≡ cond b None w

@@ -21,14 +21,9 @@ use Rattle.network_law.specs.Step.{Step}
 use Rattle.network_model.specs.declared.State.{State}
 use Rattle.network_model.specs.Model.{Known, Linked, Links, moment, moment_of}
 use Rattle.network_model.specs.Performs.{Took, Learnt, answer_by, rooms_of, add_cause, retract_cause}
-use Rattle.network_model.proofs.Asking.{stands_in, as_many, refused}
+use Rattle.network_model.proofs.Asking.{when_none, stands_in, as_many, refused}
 use Rattle.network_model.proofs.Change.{links_set}
 use Rattle.network_model.proofs.Steps.{step_add, step_retract}
-
--- a cause that does not hold
-when_none : (b : Bool) (e : Refusal) → when b e ≡ None → b ≡ false
-when_none true e h = let z : ◌≡◌ {A = ℕ} 0 1 = cc in absurd (omega arith)
-when_none false e h = refl
 
 pub record Lending (rooms : Rooms) (late : Bool) : Type 0 where
   pub waiting : ltb rooms.waiting 128 ≡ false

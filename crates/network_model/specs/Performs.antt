@@ -1,8 +1,8 @@
 -- What a call does to the state of a network.
-use Rattle.std.specs.Prelude.{◌≡◌, ℕ, true, false, not, List, length, Ok, Err, Option, Result, nat_lt, slice_index_or}
+use Rattle.std.specs.Prelude.{◌≡◌, ℕ, true, false, not, ◌&&◌, List, length, Ok, Err, Option, Result, nat_lt, slice_index, slice_index_or}
 use Rattle.catalog.specs.Meaning.{Meaning}
 use Rattle.refusal.specs.declared.Refusal.{Refusal}
-use Rattle.refusal.specs.declared.Refusal.TheVariants.{AlreadyIn, NoSuchConstraint, NotIn}
+use Rattle.refusal.specs.declared.Refusal.TheVariants.{AlreadyIn, NoSuchConstraint, NoSuchValue, NotIn}
 use Rattle.refusal.specs.Causes.{constraint_refusal, first}
 use Rattle.network_law.specs.declared.Answer.{Answer}
 use Rattle.network_law.specs.declared.Answer.TheVariants.{Refused}
@@ -47,3 +47,7 @@ add_cause m s p rooms = first (constraint_refusal m s.variables p) (first (when 
 
 abbrev pub retract_cause : Meaning → State → ℕ → Rooms → Option Refusal
 retract_cause m s p rooms = first (when (not (nat_lt p m.count)) NoSuchConstraint) (first (when (not (is_present s.engine.constraints p)) NotIn) (lent_refusal rooms (spent s.engine.domains.clock)))
+
+-- the cause that turns down a question about the value x of the variable i
+abbrev pub value_cause : State → ℕ → ℕ → Option Refusal
+value_cause s i x = when (not (nat_lt i s.variables && nat_lt x (slice_index s.engine.constraints.sizes i))) NoSuchValue

@@ -8,6 +8,7 @@ use refusal::Refusal;
 use refusal::checks::{check_constraint, check_sizes};
 
 // Is each index one of a constraint between two of the first `n` variables?
+#[tactic(auto, using(crate::proofs::Accepting::indices_pass, crate::proofs::Accepting::indices_stop, crate::proofs::Accepting::indices_end))]
 fn check_indices<C: Catalog>(catalog: &C, n: usize, indices: &[usize]) -> Result<(), Refusal>
     ensures { result_err result ≡ indices_refusal (C.Catalog.meaning catalog.now) n indices.now }
 {

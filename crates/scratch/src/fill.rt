@@ -42,6 +42,7 @@ fn keep<C: Catalog>(catalog: &C, sizes: &[usize], p: usize, arcs: &mut [Option<A
 }
 
 // Each constraint that `indices` names, kept both ways.
+#[tactic(auto, using(crate::proofs::Accepting::indices_each, crate::proofs::Keeping::filled_more, crate::proofs::Keeping::filled_all))]
 pub(crate) fn fill<C: Catalog>(
     catalog: &C,
     sizes: &[usize],
@@ -58,6 +59,7 @@ pub(crate) fn fill<C: Catalog>(
 }
 
 // Every value of every variable.
+#[tactic(auto, using(bits::proofs::Bitwise::has_of_zero))]
 pub(crate) fn whole(sizes: &[usize], domains: &mut [u64])
     requires len { length domains.old ≡ length sizes.now }
     requires bounded { Bounded sizes.now }

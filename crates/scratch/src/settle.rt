@@ -8,6 +8,7 @@ ghost use Rattle.scratch.specs.Settling.{Placed, Revised, Swept, stays};
 use crate::arc::Arc;
 
 // The values in the set `near` that have a support in the set `far`.
+#[tactic(auto, using(bits::proofs::Bitwise::has_past))]
 fn supported(arc: &Arc, near: u64, far: u64) -> u64
     ensures { (x : ℕ) → has_bit result x ≡ stays arc.now near far x }
 {
@@ -30,6 +31,7 @@ fn remaining(arc: &Arc, domains: &[u64]) -> u64
 }
 
 // Puts the values without support out of the near variable's domain, and says whether there were any.
+#[tactic(auto, using(crate::proofs::Sweeping::revised_made))]
 fn revise(arc: &Arc, domains: &mut [u64]) -> bool
     requires near { arc.now.near < length domains.old }
     requires far { arc.now.far < length domains.old }

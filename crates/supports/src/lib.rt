@@ -28,6 +28,7 @@ pub fn rows<C: Catalog>(catalog: &C, p: usize, left_size: usize, right_size: usi
     ensures { (x y : ℕ) → has_bit (slice_index result x) y ≡ (nat_lt x left_size && (nat_lt y right_size && allowed (C.Catalog.meaning catalog.now) p x y)) }
 {
     let mut rows = [0; 64];
+    // By index: the loop stops at a size, and with `iter_mut().enumerate().take(..)` its invariant has no index to go by.
     for x in 0..left_size.min(64) {
         rows[x] = row(catalog, p, x, right_size);
     }
@@ -35,7 +36,7 @@ pub fn rows<C: Catalog>(catalog: &C, p: usize, left_size: usize, right_size: usi
 }
 
 // Which of the rows have the value `y`.
-#[tactic(auto, using(bits::proofs::Bitwise::has_of_zero, bits::proofs::Bitwise::has_past))]
+#[tactic(auto, using(bits::proofs::Bitwise::has_of_zero))]
 fn column(rows: &[u64; 64], y: usize) -> u64
     ensures { (x : ℕ) → has_bit result x ≡ has_bit (slice_index rows.now x) y }
 {
@@ -49,13 +50,12 @@ fn column(rows: &[u64; 64], y: usize) -> u64
 }
 
 // The same pairs from the other end: row y has x where row x has y.
-#[tactic(auto, using(bits::proofs::Bitwise::has_of_zero, bits::proofs::Bitwise::has_past))]
 pub fn turned(rows: &[u64; 64]) -> [u64; 64]
     ensures { (x y : ℕ) → has_bit (slice_index result y) x ≡ has_bit (slice_index rows.now x) y }
 {
     let mut turned = [0; 64];
-    for y in 0..64 {
-        turned[y] = column(rows, y);
+    for (y, entry) in turned.iter_mut().enumerate() {
+        *entry = column(rows, y);
     }
     turned
 }

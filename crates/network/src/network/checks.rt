@@ -1,9 +1,8 @@
 // Whether a call may be answered.
-ghost use Rattle.std.specs.Prelude.{◌≡◌, ◌<◌, ◌≤◌, ◌⊎◌, IfOk, Some, MatchResult, slice_index};
+ghost use Rattle.std.specs.Prelude.{◌≡◌, IfOk, Some};
 ghost use Rattle.catalog.specs.Meaning.{ends_of};
 ghost use Rattle.network_law.specs.Refusals.{lent_refusal, spent};
-ghost use Rattle.network_model.specs.Performs.{add_cause, retract_cause, rooms_of};
-ghost use Rattle.refusal.specs.declared.Refusal.TheVariants.{NoSuchValue};
+ghost use Rattle.network_model.specs.Performs.{add_cause, retract_cause, rooms_of, value_cause};
 ghost use Rattle.std.specs.Result.{result_err};
 
 use super::Network;
@@ -67,7 +66,7 @@ impl<C: Catalog> Network<C> {
 
     // Is it a value of one of the variables?
     pub(super) fn check_value(&self, variable: usize, value: usize) -> Result<(), Refusal>
-        ensures { MatchResult result (λ _. (variable < self.now.state.variables) × (value < slice_index self.now.state.engine.constraints.sizes variable)) (λ e. (e ≡ NoSuchValue) × ((self.now.state.variables ≤ variable) ⊎ (slice_index self.now.state.engine.constraints.sizes variable ≤ value))) }
+        ensures { result_err result ≡ value_cause self.now.state variable value }
     {
         if variable >= self.state.variables {
             return Err(Refusal::NoSuchValue);
