@@ -28,7 +28,7 @@ pub fn rows<C: Catalog>(catalog: &C, p: usize, left_size: usize, right_size: usi
     ensures { (x y : ℕ) → has_bit (slice_index result x) y ≡ (nat_lt x left_size && (nat_lt y right_size && allowed (C.Catalog.meaning catalog.now) p x y)) }
 {
     let mut rows = [0; 64];
-    // By index: the loop stops at a size, and with `iter_mut().enumerate().take(..)` its invariant has no index to go by.
+    // By index: the loop stops at a size. With `iter_mut().enumerate().take(..)` the invariant has no index to go by, and of `array::from_fn` the proof did not close.
     for x in 0..left_size.min(64) {
         rows[x] = row(catalog, p, x, right_size);
     }
