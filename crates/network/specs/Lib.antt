@@ -1,1 +1,2 @@
 pub mod Requests
+pub mod Served

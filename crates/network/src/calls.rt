@@ -2,8 +2,9 @@
 ghost use Rattle.std.specs.Prelude.{◌≡◌, IfOk};
 ghost use Rattle.domains.specs.Stands.{Past};
 ghost use Rattle.network.specs.Requests.{call_of, calls_of};
+ghost use Rattle.network.specs.Served.{Serves};
 ghost use Rattle.network_law.specs.History.{Run};
-ghost use Rattle.network_model.specs.Performs.{Performs, rooms_of};
+ghost use Rattle.network_model.specs.Performs.{rooms_of};
 
 use crate::network::Network;
 use catalog::Catalog;
@@ -34,7 +35,7 @@ fn answer<C: Catalog>(
     returning: &mut [Returning],
 ) -> Answer
     ensures catalog { network.new.catalog ≡ network.old.catalog }
-    ensures performs { Performs (C.Catalog.meaning network.old.catalog) network.old.state (call_of (rooms_of waiting.old returning.old) call.entry) result network.new.state }
+    ensures performs { Serves C.Catalog.meaning network.old (call_of (rooms_of waiting.old returning.old) call.entry) result network.new }
     ensures past { Past 128 waiting.old waiting.new }
     ensures past_returning { Past 2048 returning.old returning.new }
 {

@@ -2,7 +2,8 @@
 ghost use Rattle.std.specs.Prelude.{◌≡◌};
 ghost use Rattle.network_law.specs.Calls.{asks_domain, asks_justification, asks_shown, asks_wiped};
 ghost use Rattle.network_law.specs.declared.Answer.TheVariants.{Domain, Justified, Shown, Wiped};
-ghost use Rattle.network_model.specs.Performs.{Performs, answer_by};
+ghost use Rattle.network.specs.Served.{Serves};
+ghost use Rattle.network_model.specs.Performs.{answer_by};
 
 use super::Network;
 use catalog::Catalog;
@@ -12,7 +13,7 @@ use refusal::Refusal;
 impl<C: Catalog> Network<C> {
     // The values of the variable that are shown: bit x for the value x.
     pub fn domain(&self, variable: usize) -> Result<u64, Refusal>
-        ensures { Performs (C.Catalog.meaning self.now.catalog) self.now.state (asks_domain variable) (answer_by Domain result) self.now.state }
+        ensures { Serves C.Catalog.meaning self.now (asks_domain variable) (answer_by Domain result) self.now }
     {
         if variable >= self.state.variables {
             return Err(Refusal::NoSuchValue);
@@ -22,7 +23,7 @@ impl<C: Catalog> Network<C> {
 
     // Is the value shown?
     pub fn is_shown(&self, variable: usize, value: usize) -> Result<bool, Refusal>
-        ensures { Performs (C.Catalog.meaning self.now.catalog) self.now.state (asks_shown variable value) (answer_by Shown result) self.now.state }
+        ensures { Serves C.Catalog.meaning self.now (asks_shown variable value) (answer_by Shown result) self.now }
     {
         self.check_value(variable, value)?;
         Ok(bits::has(self.state.engine.domain(variable), value))
@@ -34,7 +35,7 @@ impl<C: Catalog> Network<C> {
         variable: usize,
         value: usize,
     ) -> Result<Option<Justification>, Refusal>
-        ensures { Performs (C.Catalog.meaning self.now.catalog) self.now.state (asks_justification variable value) (answer_by Justified result) self.now.state }
+        ensures { Serves C.Catalog.meaning self.now (asks_justification variable value) (answer_by Justified result) self.now }
     {
         self.check_value(variable, value)?;
         Ok(self.state.engine.justification(variable, value))
@@ -42,7 +43,7 @@ impl<C: Catalog> Network<C> {
 
     // The lowest variable with no value left, if there is one.
     pub fn wiped_out(&self) -> Option<usize>
-        ensures { Performs (C.Catalog.meaning self.now.catalog) self.now.state asks_wiped (Wiped result) self.now.state }
+        ensures { Serves C.Catalog.meaning self.now asks_wiped (Wiped result) self.now }
     {
         self.state.engine.wiped_out(self.state.variables)
     }

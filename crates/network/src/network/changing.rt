@@ -6,8 +6,8 @@ ghost use Rattle.domains.specs.Stands.{Past};
 ghost use Rattle.engine.specs.Calls.{Added, Retracted, can_add, can_retract};
 ghost use Rattle.network_law.specs.Calls.{adds, retracts};
 ghost use Rattle.network_law.specs.declared.Answer.TheVariants.{Changed};
-ghost use Rattle.network_model.specs.Model.{Linked};
-ghost use Rattle.network_model.specs.Performs.{Performs, answer_by, rooms_of};
+ghost use Rattle.network.specs.Served.{Serves, Stands};
+ghost use Rattle.network_model.specs.Performs.{answer_by, rooms_of};
 
 use super::Network;
 use catalog::Catalog;
@@ -66,10 +66,11 @@ impl<C: Catalog> Network<C> {
         returning: &mut [Returning],
     ) -> Result<Change, Refusal>
         ensures catalog { self.new.catalog ≡ self.old.catalog }
-        ensures performs { Performs (C.Catalog.meaning self.old.catalog) self.old.state (adds constraint (rooms_of waiting.old returning.old)) (answer_by Changed result) self.new.state }
+        ensures performs { Serves C.Catalog.meaning self.old (adds constraint (rooms_of waiting.old returning.old)) (answer_by Changed result) self.new }
         ensures past { Past 128 waiting.old waiting.new }
         ensures returning { returning.new ≡ returning.old }
-        ensures refused { Linked (C.Catalog.meaning self.old.catalog) self.old.state → OnErr result ((self.new.state ≡ self.old.state) × (waiting.new ≡ waiting.old)) }
+        ensures refused { Stands C.Catalog.meaning self.old → OnErr result (self.new.state ≡ self.old.state) }
+        ensures unlent { Stands C.Catalog.meaning self.old → OnErr result (waiting.new ≡ waiting.old) }
     {
         let (left, right) = self.check_add(constraint, waiting, returning)?;
         self.know(constraint, left, right);
@@ -84,10 +85,12 @@ impl<C: Catalog> Network<C> {
         returning: &mut [Returning],
     ) -> Result<Change, Refusal>
         ensures catalog { self.new.catalog ≡ self.old.catalog }
-        ensures performs { Performs (C.Catalog.meaning self.old.catalog) self.old.state (retracts constraint (rooms_of waiting.old returning.old)) (answer_by Changed result) self.new.state }
+        ensures performs { Serves C.Catalog.meaning self.old (retracts constraint (rooms_of waiting.old returning.old)) (answer_by Changed result) self.new }
         ensures past { Past 128 waiting.old waiting.new }
         ensures past_returning { Past 2048 returning.old returning.new }
-        ensures refused { Linked (C.Catalog.meaning self.old.catalog) self.old.state → OnErr result ((self.new.state ≡ self.old.state) × (waiting.new ≡ waiting.old) × (returning.new ≡ returning.old)) }
+        ensures refused { Stands C.Catalog.meaning self.old → OnErr result (self.new.state ≡ self.old.state) }
+        ensures unlent { Stands C.Catalog.meaning self.old → OnErr result (waiting.new ≡ waiting.old) }
+        ensures unlent_returning { Stands C.Catalog.meaning self.old → OnErr result (returning.new ≡ returning.old) }
     {
         self.check_retract(constraint, waiting, returning)?;
         self.take_out(constraint, waiting, returning)

@@ -2,7 +2,7 @@
 ghost use Rattle.std.specs.Prelude.{◌≡◌, false, Some};
 ghost use Rattle.catalog.specs.Meaning.{ends_of};
 ghost use Rattle.domains.specs.Model.{is_present};
-ghost use Rattle.network_model.specs.Model.{Linked};
+ghost use Rattle.network.specs.Served.{Stands};
 ghost use Rattle.network_model.specs.Performs.{Learnt};
 
 use super::Network;
@@ -14,7 +14,7 @@ impl<C: Catalog> Network<C> {
         requires ends { Some (left, right) ≡ ends_of (C.Catalog.meaning self.old.catalog) constraint }
         requires absent { is_present self.old.state.engine.constraints constraint ≡ false }
         ensures catalog { self.new.catalog ≡ self.old.catalog }
-        ensures learnt { Linked (C.Catalog.meaning self.old.catalog) self.old.state → Learnt (C.Catalog.meaning self.old.catalog) constraint self.old.state self.new.state }
+        ensures learnt { Stands C.Catalog.meaning self.old → Learnt (C.Catalog.meaning self.old.catalog) constraint self.old.state self.new.state }
     {
         if !self.state.known[constraint] {
             let rows = supports::rows(

@@ -3,8 +3,9 @@ ghost use Rattle.std.specs.Prelude.{◌≡◌, ℕ, None, slice_index};
 ghost use Rattle.network_law.specs.Calls.{opens};
 ghost use Rattle.network_law.specs.Moment.{Blank};
 ghost use Rattle.network_law.specs.declared.Answer.TheVariants.{Opened};
-ghost use Rattle.network_model.specs.Model.{Linked, moment_of};
-ghost use Rattle.network_model.specs.Performs.{Performs, answer_by};
+ghost use Rattle.network_model.specs.Model.{moment_of};
+ghost use Rattle.network.specs.Served.{Serves, Stands};
+ghost use Rattle.network_model.specs.Performs.{answer_by};
 ghost use Rattle.refusal.specs.Causes.{sizes_refusal};
 
 use super::Network;
@@ -30,7 +31,7 @@ impl<C: Catalog> Network<C> {
     // A network with no variables, and no constraint in, at time 0.
     pub fn new(catalog: C) -> Network<C>
         ensures catalog { result.catalog ≡ catalog }
-        ensures linked { Linked (C.Catalog.meaning result.catalog) result.state }
+        ensures linked { Stands C.Catalog.meaning result }
         ensures blank { Blank (moment_of result.state) }
     {
         let state = State {
@@ -44,7 +45,7 @@ impl<C: Catalog> Network<C> {
     // Opens the network: variables of these sizes, every value shown, no constraint in, and the clock at this time.
     pub fn open(&mut self, sizes: &[usize], time: u32) -> Result<(), Refusal>
         ensures catalog { self.new.catalog ≡ self.old.catalog }
-        ensures performs { Performs (C.Catalog.meaning self.old.catalog) self.old.state (opens sizes.now time) (answer_by (λ _. Opened) result) self.new.state }
+        ensures performs { Serves C.Catalog.meaning self.old (opens sizes.now time) (answer_by (λ _. Opened) result) self.new }
     {
         check_sizes(sizes)?;
         self.state.engine.open(&narrow(sizes), time);

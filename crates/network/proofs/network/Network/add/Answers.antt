@@ -1,6 +1,7 @@
-use Rattle.std.proofs.Common.{Some, refl, ap, ◌∙◌}
+use Rattle.std.proofs.Common.{OnErr, Some, refl, ap, ◌∙◌}
 use Rattle.std.proofs.lemmas.Result.{err_from_is_err_and, MatchResult-weaker}
 use Rattle.std.proofs.lemmas.Bool.{both_ways}
+use Rattle.network_model.specs.Model.{Linked}
 use Rattle.network_model.proofs.Changing.{add_refused, add_took, may_add}
 use Rattle.network.proofs.network.Network.add.Goals as goal
 
@@ -16,7 +17,8 @@ returns-in_err-left g c =
           (ap Some p.2 ∙ c.in_err-left.ensures.refused);
       past = record { long = refl; rest = refl };
       returning = refl;
-      refused = λ linked. (refl, refl);
+      refused = λ linked. refl;
+      unlent = λ linked. refl;
     })
 
 pub returns : goal.returns
@@ -25,6 +27,10 @@ returns g c =
     let m = g.C.Catalog.meaning n.catalog in
     let lawful = g.C.Catalog.lawful n.catalog in
     let free = c.in_ok-left.ensures.refused in
+    let never : Linked m n.state → OnErr c.put_in.result ⊥ =
+    λ linked. MatchResult-weaker c.put_in.result c.put_in.ensures.added (λ v did. tt)
+    (λ e cannot. both_ways _ cannot (may_add m lawful n.state c.args.constraint c.args.waiting.now c.args.returning.now linked c.know.new.self.state free (c.know.ensures.learnt linked)))
+    in
     record {
       catalog = c.put_in.ensures.catalog ∙ c.know.ensures.catalog;
       performs = λ linked.
@@ -32,7 +38,6 @@ returns g c =
           (c.know.ensures.learnt linked) c.put_in.ensures.added c.put_in.ensures.wiped c.put_in.ensures.variables c.put_in.ensures.known;
       past = c.put_in.ensures.past;
       returning = refl;
-      refused = λ linked.
-          MatchResult-weaker c.put_in.result c.put_in.ensures.added (λ v did. tt)
-          (λ e cannot. absurd (both_ways _ cannot (may_add m lawful n.state c.args.constraint c.args.waiting.now c.args.returning.now linked c.know.new.self.state free (c.know.ensures.learnt linked))));
+      refused = λ linked. MatchResult-weaker c.put_in.result (never linked) (λ v did. tt) (λ e no. absurd no);
+      unlent = λ linked. MatchResult-weaker c.put_in.result (never linked) (λ v did. tt) (λ e no. absurd no);
     }

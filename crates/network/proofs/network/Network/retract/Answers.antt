@@ -1,6 +1,7 @@
-use Rattle.std.proofs.Common.{Some, refl, ap, ◌∙◌}
+use Rattle.std.proofs.Common.{OnErr, Some, refl, ap, ◌∙◌}
 use Rattle.std.proofs.lemmas.Result.{err_from_is_err_and, MatchResult-weaker}
 use Rattle.std.proofs.lemmas.Bool.{both_ways}
+use Rattle.network_model.specs.Model.{Linked}
 use Rattle.network_model.proofs.Changing.{retract_refused, retract_took, may_retract}
 use Rattle.network.proofs.network.Network.retract.Goals as goal
 
@@ -16,7 +17,9 @@ returns-in_err-check_retract g c =
           (ap Some p.2 ∙ c.in_err-check_retract.ensures);
       past = record { long = refl; rest = refl };
       past_returning = record { long = refl; rest = refl };
-      refused = λ linked. (refl, refl, refl);
+      refused = λ linked. refl;
+      unlent = λ linked. refl;
+      unlent_returning = λ linked. refl;
     })
 
 pub returns : goal.returns
@@ -25,6 +28,10 @@ returns g c =
     let m = g.C.Catalog.meaning n.catalog in
     let lawful = g.C.Catalog.lawful n.catalog in
     let free = c.in_ok-check_retract.ensures in
+    let never : Linked m n.state → OnErr c.take_out.result ⊥ =
+    λ linked. MatchResult-weaker c.take_out.result c.take_out.ensures.retracted (λ v did. tt)
+    (λ e cannot. both_ways _ cannot (may_retract m lawful n.state c.args.constraint c.args.waiting.now c.args.returning.now linked free))
+    in
     record {
       catalog = c.take_out.ensures.catalog;
       performs = λ linked.
@@ -32,7 +39,7 @@ returns g c =
           c.take_out.ensures.retracted c.take_out.ensures.wiped c.take_out.ensures.variables c.take_out.ensures.known;
       past = c.take_out.ensures.past;
       past_returning = c.take_out.ensures.past_returning;
-      refused = λ linked.
-          MatchResult-weaker c.take_out.result c.take_out.ensures.retracted (λ v did. tt)
-          (λ e cannot. absurd (both_ways _ cannot (may_retract m lawful n.state c.args.constraint c.args.waiting.now c.args.returning.now linked free)));
+      refused = λ linked. MatchResult-weaker c.take_out.result (never linked) (λ v did. tt) (λ e no. absurd no);
+      unlent = λ linked. MatchResult-weaker c.take_out.result (never linked) (λ v did. tt) (λ e no. absurd no);
+      unlent_returning = λ linked. MatchResult-weaker c.take_out.result (never linked) (λ v did. tt) (λ e no. absurd no);
     }

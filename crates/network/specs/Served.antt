@@ -1,0 +1,15 @@
+-- What a call on a network does, by the meaning of the network's catalog.
+use Rattle.catalog.specs.Meaning.{Meaning}
+use Rattle.network_law.specs.declared.Answer.{Answer}
+use Rattle.network_law.specs.Calls.{Call}
+use Rattle.network_model.specs.Model.{Linked}
+use Rattle.network_model.specs.Performs.{Performs}
+use Rattle.network.specs.declared.network.Network.{Network}
+
+-- the state stands rightly beside the catalog
+abbrev pub Stands : {C : Type 0} → (C → Meaning) → Network C → Type 0
+Stands meaning n = Linked (meaning n.catalog) n.state
+
+-- the call led from one network to the other by a step of the law, with this answer
+abbrev pub Serves : {C : Type 0} → (C → Meaning) → Network C → Call → Answer → Network C → Type 0
+Serves meaning n k a n' = Performs (meaning n.catalog) n.state k a n'.state
