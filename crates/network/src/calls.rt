@@ -77,6 +77,7 @@ pub fn perform<C: Catalog + Drop>(
 {
     let mut answers = Vec::with_capacity(heap, calls.len())?;
     let mut network = Network::new(catalog);
+    // A loop: each call alters the network and the rooms, which nothing is known of after a chain's closure.
     for call in calls {
         let answer = answer(&mut network, *call, waiting, returning);
         answers.push_reserved(answer);

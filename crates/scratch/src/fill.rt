@@ -11,14 +11,16 @@ ghost use Rattle.scratch.specs.Rows.{Bounded};
 use crate::arc::Arc;
 use catalog::Catalog;
 
-// The same constraint seen from its other end.
-fn turned(arc: &Arc) -> Arc
-    ensures { Turned arc.now result }
-{
-    Arc {
-        near: arc.far,
-        far: arc.near,
-        rows: supports::turned(&arc.rows),
+impl Arc {
+    // The same constraint seen from its other end.
+    fn turned(&self) -> Arc
+        ensures { Turned self.now result }
+    {
+        Arc {
+            near: self.far,
+            far: self.near,
+            rows: supports::turned(&self.rows),
+        }
     }
 }
 
@@ -37,7 +39,7 @@ fn keep<C: Catalog>(catalog: &C, sizes: &[usize], p: usize, arcs: &mut [Option<A
             rows: supports::rows(catalog, p, sizes[a], sizes[b]),
         };
         arcs[2 * p] = Some(there);
-        arcs[2 * p + 1] = Some(turned(&there));
+        arcs[2 * p + 1] = Some(there.turned());
     }
 }
 
@@ -59,7 +61,6 @@ pub(crate) fn fill<C: Catalog>(
 }
 
 // Every value of every variable.
-#[tactic(auto, using(bits::proofs::Bitwise::has_of_zero))]
 pub(crate) fn whole(sizes: &[usize], domains: &mut [u64])
     requires len { length domains.old ≡ length sizes.now }
     requires bounded { Bounded sizes.now }

@@ -1,5 +1,5 @@
 // Values without support are put out until every value has its supports.
-ghost use Rattle.std.specs.Prelude.{◌≡◌, ℕ, ◌<◌, ◌≤◌, length, slice_index};
+ghost use Rattle.std.specs.Prelude.{◌≡◌, ℕ, ◌<◌, ◌≤◌, length};
 ghost use Rattle.arcs.specs.Family.{Largest};
 ghost use Rattle.bits.specs.Bits.{domains_of, has_bit};
 ghost use Rattle.scratch.specs.Rows.{arcs_of_rows};
@@ -7,40 +7,33 @@ ghost use Rattle.scratch.specs.Settling.{Placed, Revised, Swept, stays};
 
 use crate::arc::Arc;
 
-// The values in the set `near` that have a support in the set `far`.
-#[tactic(auto, using(bits::proofs::Bitwise::has_past))]
-fn supported(arc: &Arc, near: u64, far: u64) -> u64
-    ensures { (x : ℕ) → has_bit result x ≡ stays arc.now near far x }
-{
-    let mut stay = near;
-    for (x, row) in arc.rows.iter().enumerate() {
-        if *row & far == 0 {
-            stay = bits::without(stay, x);
+impl Arc {
+    // The values in the set `near` that have a support in the set `far`.
+    #[tactic(auto, using(bits::proofs::Bitwise::has_past))]
+    fn supported(&self, near: u64, far: u64) -> u64
+        ensures { (x : ℕ) → has_bit result x ≡ stays self.now near far x }
+    {
+        let mut stay = near;
+        for (x, row) in self.rows.iter().enumerate() {
+            if *row & far == 0 {
+                stay = bits::without(stay, x);
+            }
         }
+        stay
     }
-    stay
-}
 
-// What is left of the near variable's domain.
-fn remaining(arc: &Arc, domains: &[u64]) -> u64
-    requires near { arc.now.near < length domains.now }
-    requires far { arc.now.far < length domains.now }
-    ensures { (x : ℕ) → has_bit result x ≡ stays arc.now (slice_index domains.now arc.now.near) (slice_index domains.now arc.now.far) x }
-{
-    supported(arc, domains[arc.near], domains[arc.far])
-}
-
-// Puts the values without support out of the near variable's domain, and says whether there were any.
-#[tactic(auto, using(crate::proofs::Sweeping::revised_made))]
-fn revise(arc: &Arc, domains: &mut [u64]) -> bool
-    requires near { arc.now.near < length domains.old }
-    requires far { arc.now.far < length domains.old }
-    ensures { Revised arc.now domains.old domains.new result }
-{
-    let before = domains[arc.near];
-    let stay = remaining(arc, domains);
-    domains[arc.near] = stay;
-    stay != before
+    // Puts the values without support out of the near variable's domain, and says whether there were any.
+    #[tactic(auto, using(crate::proofs::Sweeping::revised_made))]
+    fn revise(&self, domains: &mut [u64]) -> bool
+        requires near { self.now.near < length domains.old }
+        requires far { self.now.far < length domains.old }
+        ensures { Revised self.now domains.old domains.new result }
+    {
+        let before = domains[self.near];
+        let stay = self.supported(before, domains[self.far]);
+        domains[self.near] = stay;
+        stay != before
+    }
 }
 
 // Revises each arc that is kept and whose far variable is in `stale`, and gives the set of the variables that lost values.
@@ -52,7 +45,7 @@ fn pass(arcs: &[Option<Arc>], stale: u64, domains: &mut [u64]) -> u64
     let mut next = 0;
     for place in arcs {
         if let Some(arc) = place {
-            if bits::has(stale, arc.far) && revise(arc, domains) {
+            if bits::has(stale, arc.far) && arc.revise(domains) {
                 next = bits::with(next, arc.near);
             }
         }

@@ -1,4 +1,5 @@
-// Constraints go in and out.
+// Constraints go in and out. The two rooms are lent apart: the engine's add takes the first alone, and a struct of both would be built anew
+// at each call.
 ghost use Rattle.std.specs.Prelude.{◌≡◌, false, length, IfOk, MatchResult, OnErr};
 ghost use Rattle.arcs.specs.WipedOut.{WipedOut};
 ghost use Rattle.domains.specs.Model.{shown};
