@@ -13,18 +13,20 @@ loop-call-preserved g c =
     let inv = c.loop-call.invariant in
     let now = c.loop-call.network in
     let did = c.answer-answer in
-    let took = did.ensures.performs inv.0 in (
-      subst (λ v. Linked (g.C.Catalog.meaning v) did.new.network.state) (sym did.ensures.catalog) took.linked,
-      did.ensures.catalog ∙ inv.1,
-      call_more (g.C.Catalog.meaning c.new-network.result.catalog) (g.C.Catalog.meaning now.catalog) (moment_of c.new-network.result.state) c.args.calls.now c.loop-call.call-index _
+    let took = did.ensures.performs inv.linked in
+    record {
+      linked = subst (λ v. Linked (g.C.Catalog.meaning v) did.new.network.state) (sym did.ensures.catalog) took.linked;
+      catalog = did.ensures.catalog ∙ inv.catalog;
+      history =
+          call_more (g.C.Catalog.meaning c.new-network.result.catalog) (g.C.Catalog.meaning now.catalog) (moment_of c.new-network.result.state) c.args.calls.now c.loop-call.call-index _
           (rooms_of c.args.waiting.now c.args.returning.now) (rooms_of c.loop-call.waiting c.loop-call.returning) (vec_items c.loop-call.answers) (vec_items c.push_reserved.new.self) did.result
-          now.state did.new.network.state (omega arith) (same_rooms c.args.waiting.now c.loop-call.waiting c.args.returning.now c.loop-call.returning inv.3 inv.4)
-          (ap g.C.Catalog.meaning inv.1) c.push_reserved.ensures.items inv.2 took,
-      past_trans 128 c.args.waiting.now c.loop-call.waiting did.new.waiting inv.3 did.ensures.past,
-      past_trans 2048 c.args.returning.now c.loop-call.returning did.new.returning inv.4 did.ensures.past_returning,
-      omega (arith, c.push_reserved.ensures.len, inv.5),
-      omega (arith, c.push_reserved.ensures.capacity, inv.6),
-    )
+          now.state did.new.network.state (omega arith) (same_rooms c.args.waiting.now c.loop-call.waiting c.args.returning.now c.loop-call.returning inv.past inv.past_returning)
+          (ap g.C.Catalog.meaning inv.catalog) c.push_reserved.ensures.items inv.history took;
+      past = past_trans 128 c.args.waiting.now c.loop-call.waiting did.new.waiting inv.past did.ensures.past;
+      past_returning = past_trans 2048 c.args.returning.now c.loop-call.returning did.new.returning inv.past_returning did.ensures.past_returning;
+      count = omega (arith, c.push_reserved.ensures.len, inv.count);
+      room = omega (arith, c.push_reserved.ensures.capacity, inv.room);
+    }
 
 pub returns : goal.returns
 returns g c =
@@ -41,8 +43,8 @@ returns g c =
             blank = made.ensures.blank;
             right = right_in (g.C.Catalog.meaning made.result.catalog) (g.C.Catalog.lawful made.result.catalog) made.result.state made.ensures.linked;
             history =
-                subst (λ v. History (g.C.Catalog.meaning made.result.catalog) (moment_of made.result.state) (calls_of rooms v) (vec_items c.loop-call.answers) (moment_of c.loop-call.network.state)) all inv.2;
+                subst (λ v. History (g.C.Catalog.meaning made.result.catalog) (moment_of made.result.state) (calls_of rooms v) (vec_items c.loop-call.answers) (moment_of c.loop-call.network.state)) all inv.history;
           });
-      past = inv.3;
-      past_returning = inv.4;
+      past = inv.past;
+      past_returning = inv.past_returning;
     }
