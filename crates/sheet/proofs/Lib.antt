@@ -1,4 +1,5 @@
 mod Answered
 mod Chunks
+pub mod Encoded
 mod Unknown
 mod Used

@@ -1,10 +1,12 @@
 // Reading a sheet: one record at a time, and the check of the whole.
 #![tactic(auto)]
 
+mod accepted;
 mod bodies;
 mod checking;
 mod progress;
 mod reader;
 
+pub use accepted::Accepted;
 pub use checking::check;
 pub use reader::{Record, Rows, read_record};

@@ -7,27 +7,24 @@ ghost use Rattle.sheet_catalog.specs.Viewed.{meant};
 use crate::SheetCatalog;
 use crate::starts::{constraint_at, starts_of};
 use crate::view::Constraint;
-use sheet::check;
+use sheet::Accepted;
 
 impl<'a> SheetCatalog<'a> {
     // The catalog over these bytes. Checks them, and finds where each constraint begins.
     pub fn new(bytes: &'a [u8]) -> SheetCatalog<'a>
         ensures { result.bytes.now ≡ bytes.now }
     {
-        match check(bytes) {
-            Ok(found) => {
-                let starts = starts_of(bytes, found);
-                SheetCatalog {
-                    bytes,
-                    count: found.constraints as usize,
-                    starts,
-                }
-            }
-            Err(_) => SheetCatalog {
+        let Ok(sheet) = Accepted::new(bytes) else {
+            return SheetCatalog {
                 bytes,
                 count: 0,
                 starts: [0; 96],
-            },
+            };
+        };
+        SheetCatalog {
+            bytes: sheet.bytes,
+            count: sheet.found.constraints as usize,
+            starts: starts_of(&sheet),
         }
     }
 

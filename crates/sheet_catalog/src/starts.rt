@@ -1,28 +1,25 @@
 // Where the constraints of an accepted sheet begin.
-ghost use Rattle.std.specs.Prelude.{◌≡◌, ℕ, ◌+◌, ◌<◌, ◌≤◌, length, drop, replicate};
+ghost use Rattle.std.specs.Prelude.{◌≡◌, ℕ, ◌<◌, ◌≤◌, length, drop};
 ghost use Rattle.std.specs.Option.{option_map};
-ghost use Rattle.sheet_format.specs.Numbers.{number2};
 ghost use Rattle.sheet_format.specs.Decoding.{decode};
 ghost use Rattle.sheet_format.specs.Reading.{reading};
-ghost use Rattle.sheet_format.specs.Law.{Encodes};
 ghost use Rattle.sheet_meaning.specs.Begun.{Begun};
 ghost use Rattle.sheet_catalog.specs.Viewed.{meant, constraint_read};
 
 use crate::view::{Constraint, constraint_in};
-use sheet::read_record;
-use sheet_format::{Summary, word};
+use sheet::{Accepted, read_record};
+use sheet_format::word;
 
 // Where each constraint of the sheet begins, one after the other.
-pub(crate) fn starts_of(bytes: &[u8], found: Summary) -> [u32; 96]
-    requires { Encodes bytes.now found }
+pub(crate) fn starts_of(sheet: &Accepted<'_>) -> [u32; 96]
     ensures wide { length result ≡ 96 }
-    ensures begun { (p : ℕ) → p < found.constraints → Begun bytes.now (decode bytes.now) result p }
+    ensures begun { (p : ℕ) → p < sheet.now.found.constraints → Begun sheet.now.bytes.now (decode sheet.now.bytes.now) result p }
 {
     let mut starts = [0; 96];
-    let mut place = found.constraints_at;
-    for p in 0..found.constraints as usize {
+    let mut place = sheet.found.constraints_at;
+    for p in 0..sheet.found.constraints as usize {
         starts[p] = place;
-        place += word(bytes, place as usize) as u32;
+        place += word(sheet.bytes, place as usize) as u32;
     }
     starts
 }

@@ -7,7 +7,7 @@ use Rattle.sheet_format.specs.declared.found.Variable.{Variable}
 use Rattle.sheet_format.specs.declared.found.Summary.{Summary}
 use Rattle.sheet_format.specs.Numbers.{number2}
 use Rattle.sheet_format.specs.Value.{Move, add, retract, Sheet, ValidMove}
-use Rattle.sheet_format.specs.Encoding.{Raw, framed, heading_record, variable_record, constraint_record, move_record, end_record, encode}
+use Rattle.sheet_format.specs.Encoding.{framed, heading_record, variable_record, constraint_record, move_record, end_record, encode}
 use Rattle.sheet_format.specs.Decoding.{decode}
 use Rattle.sheet_format.specs.Law.{Encodes, summary_of}
 use Rattle.sheet_law.proofs.NumberLaws.{two_back}

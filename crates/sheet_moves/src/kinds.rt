@@ -5,7 +5,7 @@ ghost use Rattle.sheet_moves.specs.Text.{move_text};
 use std::fmt;
 
 // A move adds or retracts the constraint at an index.
-#[derive(Clone, Copy)]
+#[derive(Clone, Copy, PartialEq, Eq, Debug)]
 pub enum Move {
     Add(u16),
     Retract(u16),

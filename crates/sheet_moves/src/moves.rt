@@ -7,11 +7,11 @@ ghost use Rattle.sheet_moves.specs.declared.moves.MovesFault.TheVariants.{Sheet,
 
 use crate::kinds::Move;
 use sheet::check;
-use sheet_format::SheetFault;
+use sheet_format::{SheetFault, word};
 use std::alloc::{AllocError, Global};
 
 // Why there are no moves: the sheet is refused, or there is no memory for them.
-#[derive(Clone, Copy)]
+#[derive(Clone, Copy, PartialEq, Eq, Debug)]
 pub enum MovesFault {
     Sheet(SheetFault),
     Memory,
@@ -38,7 +38,7 @@ fn move_at(sheet: &[u8], k: usize) -> Move
     requires { k + 5 < length sheet.now }
     ensures { said result ≡ move_at sheet.now k }
 {
-    let index = u16::from_le_bytes([sheet[k + 4], sheet[k + 5]]);
+    let index = word(sheet, k + 4);
     if sheet[k + 2] == 5 {
         Move::Add(index)
     } else {

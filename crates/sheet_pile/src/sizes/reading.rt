@@ -1,23 +1,21 @@
 // Reading the sizes from a sheet.
 ghost use Rattle.std.specs.Prelude.{◌≡◌, ℕ, ◌<◌, length, slice_index};
 ghost use Rattle.sheet_format.specs.Decoding.{decode};
-ghost use Rattle.sheet_format.specs.Law.{Encodes};
 ghost use Rattle.sheet_meaning.specs.Meant.{sheet_in};
 ghost use Rattle.sheet_meaning.specs.Placed.{size_of_house, SizesOf};
 ghost use Rattle.sheet_pile.specs.Sizes.{listed};
 
 use crate::sizes::Sizes;
 use crate::variables::variable_at;
-use sheet::check;
-use sheet_format::Summary;
+use sheet::Accepted;
+use std::array;
 
 // the size of the variable whose house number is h
-fn size_of_house(bytes: &[u8], found: Summary, h: usize) -> usize
-    requires { Encodes bytes.now found }
-    ensures { result ≡ size_of_house (decode bytes.now).variables h }
+fn size_of_house(sheet: &Accepted<'_>, h: usize) -> usize
+    ensures { result ≡ size_of_house (decode sheet.now.bytes.now).variables h }
 {
-    for e in 0..found.variables as usize {
-        let variable = variable_at(bytes, found, e);
+    for e in 0..sheet.found.variables as usize {
+        let variable = variable_at(sheet, e);
         if variable.house as usize == h {
             return variable.size as usize;
         }
@@ -26,16 +24,11 @@ fn size_of_house(bytes: &[u8], found: Summary, h: usize) -> usize
 }
 
 // the sizes by house numbers
-fn sizes_in(bytes: &[u8], found: Summary) -> [usize; 32]
-    requires { Encodes bytes.now found }
+fn sizes_in(sheet: &Accepted<'_>) -> [usize; 32]
     ensures wide { length result ≡ 32 }
-    ensures each { (h : ℕ) → h < 32 → slice_index result h ≡ size_of_house (decode bytes.now).variables h }
+    ensures each { (h : ℕ) → h < 32 → slice_index result h ≡ size_of_house (decode sheet.now.bytes.now).variables h }
 {
-    let mut sizes = [0; 32];
-    for h in 0..32 {
-        sizes[h] = size_of_house(bytes, found, h);
-    }
-    sizes
+    array::from_fn(|h| size_of_house(sheet, h))
 }
 
 impl Sizes {
@@ -43,10 +36,10 @@ impl Sizes {
     pub fn of(bytes: &[u8]) -> Sizes
         ensures { SizesOf (sheet_in bytes.now) (listed result) }
     {
-        match check(bytes) {
-            Ok(found) => Sizes {
-                sizes: sizes_in(bytes, found),
-                count: found.variables as usize,
+        match Accepted::new(bytes) {
+            Ok(sheet) => Sizes {
+                sizes: sizes_in(&sheet),
+                count: sheet.found.variables as usize,
             },
             Err(_) => Sizes {
                 sizes: [0; 32],

@@ -8,5 +8,5 @@ use Rattle.sheet_catalog.proofs.starts.starts_of.Given as goal
 abbrev pub invariant-loop-p : goal.invariant-loop-p
 invariant-loop-p l =
     (length l.starts ≡ 96)
-    × (drop l.place l.bytes ≡ from_constraint (decode l.bytes) l.p)
-    × ((k : ℕ) → k < l.p → Begun l.bytes (decode l.bytes) l.starts k)
+    × (drop l.place l.sheet.bytes.now ≡ from_constraint (decode l.sheet.bytes.now) l.p)
+    × ((k : ℕ) → k < l.p → Begun l.sheet.bytes.now (decode l.sheet.bytes.now) l.starts k)

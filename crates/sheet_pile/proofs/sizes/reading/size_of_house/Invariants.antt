@@ -5,4 +5,4 @@ use Rattle.sheet_pile.proofs.sizes.reading.size_of_house.Given as goal
 
 -- what is left of the variables gives the size
 abbrev pub invariant-loop-e : goal.invariant-loop-e
-invariant-loop-e l = size_of_house (drop l.e (decode l.bytes).variables) l.h ≡ size_of_house (decode l.bytes).variables l.h
+invariant-loop-e l = size_of_house (drop l.e (decode l.sheet.bytes.now).variables) l.h ≡ size_of_house (decode l.sheet.bytes.now).variables l.h
