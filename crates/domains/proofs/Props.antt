@@ -47,8 +47,7 @@ sized_prop : (d : Domains) → IsProp (Sized d)
 sized_prop d x y i =
     record {
       sets = ℕ_set _ _ x.sets y.sets i;
-      reasons = ℕ_set _ _ x.reasons y.reasons i;
-      times = ℕ_set _ _ x.times y.times i;
+      why = ℕ_set _ _ x.why y.why i;
       wide = Π_prop (λ _. le) x.wide y.wide i;
     }
 

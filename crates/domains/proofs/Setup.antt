@@ -10,6 +10,7 @@ use Rattle.justify.specs.Changes.{MoreReasons}
 use Rattle.justify.proofs.Keeps.{more_keeps}
 use Rattle.domains.specs.declared.Constraints.{Constraints}
 use Rattle.domains.specs.declared.Domains.{Domains}
+use Rattle.domains.specs.declared.Justification.{Justification}
 use Rattle.domains.specs.Model.{within, is_present, left_of, right_of, pair_at, arcs_of, shown, standing}
 use Rattle.domains.specs.Sound.{Shape, Sized}
 use Rattle.domains.specs.Stands.{Stands, Loaded}
@@ -65,8 +66,7 @@ stands_none =
     })
     (record {
       sets = length-replicate {A = ℕ} 32 0;
-      reasons = length-replicate {A = ℕ} 2048 0;
-      times = length-replicate {A = ℕ} 2048 0;
+      why = length-replicate {A = Justification} 2048 (record { constraint = 0; time = 0 });
       wide = λ i. omega (arith, zero_at 32 i);
     })
     (none_at 128)
@@ -123,7 +123,7 @@ module _ (c : Constraints) (d : Domains) (sizes sets : List ℕ) (clock : ℕ) (
         apart = λ p h _. both_ways (is_present (reopened c sizes) p) (none_at 128 p) h;
         mirror = stands.shape.mirror;
       })
-      (record { sets = many; reasons = stands.sound.sized.reasons; times = stands.sound.sized.times; wide = wide })
+      (record { sets = many; why = stands.sound.sized.why; wide = wide })
       (none_at 128)
       all_shown
 

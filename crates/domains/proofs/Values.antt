@@ -4,14 +4,15 @@ use lib.Bits.{bit_xor, bit_or, xor_lt, or_lt}
 use lib.Count.{ones}
 use lib.Pow.{pow-lt}
 use Rattle.std.proofs.lemmas.Nat.{one_shl}
-use Rattle.std.proofs.lemmas.List.{get_or-set_same, get_or-set_other, length-set}
+use Rattle.std.proofs.lemmas.List.{get_or-set_same, get_or-set_other, length-map, length-set, map-set}
 use Rattle.std.proofs.lemmas.Bool.{cases_eq, eq-eqb, ne_eqb, eqb-true, eqb-false}
 use Rattle.bits.specs.Bits.{bit_at, has_bit, domains_of}
 use Rattle.bits.proofs.Bitwise.{bit_low}
 use Rattle.bits.proofs.Edits.{has_cleared, has_added, ones_cleared, ones_added}
 use Rattle.justify.specs.Changes.{PutOut, PutBack}
 use Rattle.domains.specs.declared.Domains.{Domains}
-use Rattle.domains.specs.Model.{shown, standing, total}
+use Rattle.domains.specs.declared.Justification.{Justification}
+use Rattle.domains.specs.Model.{entry, reasons_of, shown, standing, times_of, total}
 use Rattle.domains.specs.Sound.{Sized}
 use Rattle.domains.proofs.Entries.{entry_same, entry_other, total-set}
 
@@ -19,7 +20,7 @@ use Rattle.domains.proofs.Entries.{entry_same, entry_other, total-set}
 abbrev pub without : Domains → ℕ → ℕ → ℕ → Domains
 without d i x p = record {
   sets = set d.sets i (bit_xor (get_or d.sets i 0) ((1 * 2 ^ x) % 2 ^ 64));
-  why = record { reasons = set d.why.reasons (64 * i + x) p; times = set d.why.times (64 * i + x) d.clock };
+  why = set d.why (64 * i + x) (record { constraint = p; time = d.clock });
   clock = d.clock + 1;
 }
 
@@ -70,18 +71,24 @@ module _ (d : Domains) (i x : ℕ) (low : i < 32) (fits : x < 64) (sized : Sized
       ⊎_elim (λ e. rw e (omega (arith, get_or-set_same d.sets i v 0 (omega (arith, sized.sets)))))
       (λ ne. omega (arith, sets_others v j ne, sized.wide j)) (cases_eq j i)
 
+  new_reasons : (p : ℕ) → reasons_of (without d i x p).why ≡ set (reasons_of d.why) (64 * i + x) p
+  new_reasons p = map-set (λ (j : Justification). j.constraint) d.why (64 * i + x) (record { constraint = p; time = d.clock })
+
+  new_times : (p : ℕ) → times_of (without d i x p).why ≡ set (times_of d.why) (64 * i + x) d.clock
+  new_times p = map-set (λ (j : Justification). j.time) d.why (64 * i + x) (record { constraint = p; time = d.clock })
+
   pub put_out : (p : ℕ) → shown d i x ≡ true → PutOut (standing d) (standing (without d i x p)) i x p d.clock
   put_out p was =
       record {
         shown = was;
         gone = here x ∙ ap (λ b. has_bit (get_or d.sets i 0) x && not b) (eq-eqb x x refl) ∙ and_no (has_bit (get_or d.sets i 0) x);
-        reason = entry_same d.why.reasons i x p fits (omega (arith, sized.reasons));
-        time = entry_same d.why.times i x d.clock fits (omega (arith, sized.times));
+        reason = ap (λ xs. entry xs i x) (new_reasons p) ∙ entry_same (reasons_of d.why) i x p fits (omega (arith, length-map d.why (λ (j : Justification). j.constraint), sized.why));
+        time = ap (λ xs. entry xs i x) (new_times p) ∙ entry_same (times_of d.why) i x d.clock fits (omega (arith, length-map d.why (λ (j : Justification). j.time), sized.why));
         others = λ j y ne.
             record {
               shown = ⊎_elim (λ e. other_here j y ne e) (λ n. set_there d.sets i _ (omega (arith, sized.sets)) j y n) (cases_eq j i);
-              reason = entry_other d.why.reasons i x p j y fits ne;
-              time = entry_other d.why.times i x d.clock j y fits ne;
+              reason = ap (λ xs. entry xs j y) (new_reasons p) ∙ entry_other (reasons_of d.why) i x p j y fits ne;
+              time = ap (λ xs. entry xs j y) (new_times p) ∙ entry_other (times_of d.why) i x d.clock j y fits ne;
             };
       }
     where
@@ -100,8 +107,7 @@ module _ (d : Domains) (i x : ℕ) (low : i < 32) (fits : x < 64) (sized : Sized
   out_sized p =
       record {
         sets = length-set d.sets i _ ∙ sized.sets;
-        reasons = length-set d.why.reasons (64 * i + x) p ∙ sized.reasons;
-        times = length-set d.why.times (64 * i + x) d.clock ∙ sized.times;
+        why = length-set d.why (64 * i + x) (record { constraint = p; time = d.clock }) ∙ sized.why;
         wide = sets_wide (bit_xor (get_or d.sets i 0) ((1 * 2 ^ x) % 2 ^ 64)) (rw (one_shl x 64 fits) (xor_lt 64 (get_or d.sets i 0) (2 ^ x) (sized.wide i) (pow-lt fits)));
       }
 
@@ -138,8 +144,7 @@ module _ (d : Domains) (i x : ℕ) (low : i < 32) (fits : x < 64) (sized : Sized
   back_sized =
       record {
         sets = length-set d.sets i _ ∙ sized.sets;
-        reasons = sized.reasons;
-        times = sized.times;
+        why = sized.why;
         wide = sets_wide (bit_or (get_or d.sets i 0) ((1 * 2 ^ x) % 2 ^ 64)) (rw (one_shl x 64 fits) (or_lt 64 (get_or d.sets i 0) (2 ^ x) (sized.wide i) (pow-lt fits)));
       }
 

@@ -9,4 +9,4 @@ no_constraints = record { sizes = replicate 32 0; present = replicate 128 false;
 
 -- no values, at time 0
 abbrev pub no_domains : Domains
-no_domains = record { sets = replicate 32 0; why = record { reasons = replicate 2048 0; times = replicate 2048 0 }; clock = 0 }
+no_domains = record { sets = replicate 32 0; why = replicate 2048 (record { constraint = 0; time = 0 }); clock = 0 }

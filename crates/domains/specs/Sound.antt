@@ -29,8 +29,7 @@ pub record Shape (c : Constraints) : Type 0 where
 -- the arrays of the domains are as long as their types say, and each set has 64 bits
 pub record Sized (d : Domains) : Type 0 where
   pub sets : length d.sets ≡ 32
-  pub reasons : length d.why.reasons ≡ 2048
-  pub times : length d.why.times ≡ 2048
+  pub why : length d.why ≡ 2048
   pub wide : (i : ℕ) → slice_index d.sets i < 2 ^ 64
 
 -- the shown values lie inside the sizes, all others are justified, and times are apart and below the clock

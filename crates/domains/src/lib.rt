@@ -5,18 +5,11 @@ mod make;
 
 pub use make::{capped, full, no_constraints, no_domains, transposed};
 
-// The justification of the value x of the variable i stands at 64 * i + x: a constraint and a time.
-#[derive(Drop)]
-pub struct Justifications {
-    pub reasons: [u8; 2048],
-    pub times: [u32; 2048],
-}
-
-// Bit x of `sets[i]` says whether the value x of the variable i is shown.
+// Bit x of `sets[i]` says whether the value x of the variable i is shown; its justification stands at 64 * i + x of `why`.
 #[derive(Drop)]
 pub struct Domains {
     pub sets: [u64; 32],
-    pub why: Justifications,
+    pub why: [Justification; 2048],
     pub clock: u32,
 }
 

@@ -4,7 +4,7 @@ ghost use Rattle.justify.specs.Changes.{PutOut, PutBack};
 ghost use Rattle.domains.specs.Model.{shown, standing, total};
 ghost use Rattle.domains.specs.Sound.{Sized};
 
-use domains::Domains;
+use domains::{Domains, Justification};
 
 // Puts the value out by the constraint, at the clock's time.
 pub(crate) fn put_out(d: &mut Domains, variable: usize, value: usize, constraint: usize)
@@ -19,8 +19,10 @@ pub(crate) fn put_out(d: &mut Domains, variable: usize, value: usize, constraint
     ensures others { (j : ℕ) → (j ≢ variable) → slice_index d.new.sets j ≡ slice_index d.old.sets j }
 {
     d.sets[variable] ^= 1 << value;
-    d.why.reasons[64 * variable + value] = constraint as u8;
-    d.why.times[64 * variable + value] = d.clock;
+    d.why[64 * variable + value] = Justification {
+        constraint,
+        time: d.clock,
+    };
     d.clock += 1;
 }
 
