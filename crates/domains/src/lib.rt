@@ -1,6 +1,8 @@
 // The plain data of the propagation engine: constraints with their rows of supports, and domains with their justifications.
 #![tactic(auto)]
 
+ghost use Rattle.std.specs.Prelude.{◌≡◌, ℕ, ◌^◌, ◌<◌, length, slice_index};
+
 mod make;
 
 pub use make::{capped, full, no_constraints, no_domains, transposed};
@@ -11,6 +13,9 @@ pub struct Domains {
     pub sets: [u64; 32],
     pub why: [Justification; 2048],
     pub clock: u32,
+    pub ghost sets_long: { length sets ≡ 32 },
+    pub ghost why_long: { length why ≡ 2048 },
+    pub ghost wide: { (i : ℕ) → slice_index sets i < 2 ^ 64 },
 }
 
 // The variables' sizes, and the constraints by their index: whether it is in, its two ends, and its rows of supports. Row 128 * p + x has

@@ -6,7 +6,7 @@ ghost use Rattle.queue.specs.Waiting.{Kept, waits};
 ghost use Rattle.bits.specs.Bits.{has_bit};
 ghost use Rattle.domains.specs.Model.{arcs_of, entry, is_present, reason_is, reasons_of, shown, standing, times_of, total, within};
 ghost use Rattle.domains.specs.Releasing.{Followed, Low, Releasing};
-ghost use Rattle.domains.specs.Sound.{Arrays, Facing, Shape, Sized, Sound};
+ghost use Rattle.domains.specs.Sound.{Arrays, Facing, Shape, Sound};
 ghost use Rattle.engine.specs.Returns.{FreesAmong, Grew, Roomy};
 
 use crate::revise::arc_at;
@@ -17,7 +17,6 @@ use queue::Queue;
 // Is the value out, with a justification that names the constraint?
 pub(crate) fn names(d: &Domains, variable: usize, value: usize, constraint: usize) -> bool
     requires low { (variable < 32) × (value < 64) }
-    requires sized { Sized d.now }
     ensures { result ≡ (not (shown d.now variable value) && entry (reasons_of d.now.why) variable value == constraint) }
 {
     if bits::has(d.sets[variable], value) {
@@ -29,12 +28,10 @@ pub(crate) fn names(d: &Domains, variable: usize, value: usize, constraint: usiz
 // Puts the value back and lets it wait.
 pub(crate) fn free(d: &mut Domains, q: &mut Queue<'_, Returning>, variable: usize, value: usize)
     requires low { (variable < 32) × (value < 64) }
-    requires sized { Sized d.old }
     requires was { shown d.old variable value ≡ false }
     requires limit { q.old.limit ≡ 2048 }
     requires few { q.old.len ≤ total d.old.sets }
     ensures put { PutBack (standing d.old) (standing d.new) variable value }
-    ensures sized { Sized d.new }
     ensures clock { d.new.clock ≡ d.old.clock }
     ensures why { d.new.why ≡ d.old.why }
     ensures more { total d.new.sets ≡ total d.old.sets + 1 }
@@ -113,7 +110,6 @@ pub(crate) fn release(
     requires limit { q.old.limit ≡ 2048 }
     requires empty { (waits q.old ≡ []) × (q.old.len ≡ 0) }
     ensures released { Released (arcs_of c.now) (within c.now) (reason_is constraint) (standing d.old) (standing d.new) }
-    ensures sized { Sized d.new }
     ensures inside { Inside (within c.now) (shown d.new) }
     ensures clock { d.new.clock ≡ d.old.clock }
     ensures more { total d.old.sets ≤ total d.new.sets }

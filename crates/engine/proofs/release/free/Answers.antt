@@ -16,15 +16,14 @@ returns c =
     let x = c.args.value in
     let fits : c.push.result ≡ true =
     c.push.ensures.fits
-    ∙ lt-ltb q.len q.limit (some_room d d' q.len q.limit c.put_back.ensures.sized c.requires.limit c.requires.few c.put_back.ensures.more)
+    ∙ lt-ltb q.len q.limit (some_room d d' q.len q.limit c.requires.limit c.requires.few c.put_back.ensures.more)
     in
-    let here : 64 * i + x < length d'.why = omega (arith, c.requires.low, c.put_back.ensures.sized.why) in
+    let here : 64 * i + x < length d'.why = omega (arith, c.requires.low, d'.why_long) in
     let time : (get_or d'.why (64 * i + x) (record { constraint = 0; time = 0 })).time ≡ entry (times_of d.why) i x =
     sym (time_read d'.why i x c.requires.low.1 here) ∙ ap (λ (j : List Justification). entry (times_of j) i x) c.put_back.ensures.why
     in
     record {
       put = c.put_back.ensures.put;
-      sized = c.put_back.ensures.sized;
       clock = c.put_back.ensures.clock;
       why = c.put_back.ensures.why;
       more = c.put_back.ensures.more;
