@@ -7,7 +7,7 @@ use Rattle.domains.specs.Releasing.{Releasing}
 use Rattle.domains.proofs.Entries.{total_few}
 use Rattle.domains.proofs.Release.{releasing_start, released}
 use Rattle.engine.proofs.Beside.{named_both, names_rest}
-use Rattle.engine.proofs.Frees.{kept_trans}
+use Rattle.engine.proofs.Kept.{kept_trans}
 use Rattle.engine.proofs.release.release.Goals as goal
 
 pub loop-returning-smaller : goal.loop-returning-smaller
