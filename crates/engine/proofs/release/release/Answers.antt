@@ -41,7 +41,7 @@ returns c =
     let S : List Returning → Type 0 = λ w. Releasing n p d d w in
     let E : List Returning → Type 0 = λ w. Releasing n p d d₃ w in
     let r₁ : Releasing n p d d₁ (waits c.free_among.new.q) =
-    c.free_among.ensures.frees p d [] (names_rest n p _ all d) (subst S (sym c.requires.empty.0) (releasing_start n p d c.requires.sound))
+    c.free_among.ensures.frees p d [] (names_rest n p _ all d) (subst S (sym c.requires.empty) (releasing_start n p d c.requires.sound))
     in
     let r₂ : Releasing n p d d₂ (waits c.free_among-2.new.q) = c.free_among-2.ensures.frees p d [] (names_rest n p _ all d) r₁ in
     let r₃ : Releasing n p d d₃ [] = subst E c.in_default.ensures.waiting.0 (c.loop-returning.invariant.5 p d r₂) in
