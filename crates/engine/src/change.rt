@@ -5,7 +5,7 @@ ghost use Rattle.justify.specs.Changes.{Released, Same};
 ghost use Rattle.justify.specs.Standing.{Out, Rests};
 ghost use Rattle.queue.specs.Waiting.{Kept};
 ghost use Rattle.domains.specs.Model.{arcs_of, left_of, reason_is, right_of, shown, standing, within};
-ghost use Rattle.domains.specs.Sound.{Arrays, Sized, Went};
+ghost use Rattle.domains.specs.Sound.{Arrays, Went};
 ghost use Rattle.domains.specs.Stands.{Past, Stands, with_present};
 ghost use Rattle.engine.specs.Queued.{Queued};
 
@@ -60,7 +60,6 @@ fn release_through(c: &Constraints, d: &mut Domains, returning: &mut [Returning]
     requires stands { Stands c.now d.old }
     requires room { 2048 ≤ length returning.old }
     ensures released { Released (arcs_of c.now) (within c.now) (reason_is constraint) (standing d.old) (standing d.new) }
-    ensures sized { Sized d.new }
     ensures inside { Inside (within c.now) (shown d.new) }
     ensures clock { d.new.clock ≡ d.old.clock }
     ensures past { Past 2048 returning.old returning.new }
@@ -86,7 +85,8 @@ pub(crate) fn take_out(
     ensures stands { Stands c.new d.new }
     ensures kept { (i x : ℕ) → Out (within c.old) (standing d.old) i x → (Rests (arcs_of c.old) (within c.old) (standing d.old) (reason_is constraint) i x → ⊥) → Same (standing d.old) (standing d.new) i x }
     ensures grew { Inside (shown d.new) (shown d.old) }
-    ensures clock { (d.old.clock ≤ d.new.clock) × (d.new.clock ≤ d.old.clock + 2048) }
+    ensures later { d.old.clock ≤ d.new.clock }
+    ensures soon { d.new.clock ≤ d.old.clock + 2048 }
     ensures past { Past 128 waiting.old waiting.new }
     ensures past_returning { Past 2048 returning.old returning.new }
 {

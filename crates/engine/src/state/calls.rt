@@ -1,6 +1,6 @@
 ghost use Rattle.std.specs.Prelude.{◌≡◌, ℕ, ◌+◌, ◌<◌, ◌≤◌, true, false, length, is_some, MatchOption};
 ghost use Rattle.domains.specs.Model.{total};
-ghost use Rattle.domains.specs.Sound.{Arrays, Sized};
+ghost use Rattle.domains.specs.Sound.{Arrays};
 ghost use Rattle.domains.specs.Stands.{Past, Stands};
 ghost use Rattle.engine.specs.Calls.{Added, Retracted, can_add, can_retract};
 
@@ -43,9 +43,8 @@ fn can_retract(
     room >= 128 && returning >= 2048 && d.clock <= LAST
 }
 
-// How many values are shown.
+// How many values are shown. A `for`: with `map` and `sum` it was tried, and the bound that `sum` asks did not close.
 fn count(d: &Domains) -> u32
-    requires { Sized d.now }
     ensures { result ≡ total d.now.sets }
 {
     let mut n = 0;

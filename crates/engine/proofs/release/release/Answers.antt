@@ -7,15 +7,15 @@ use Rattle.domains.specs.Releasing.{Releasing}
 use Rattle.domains.proofs.Entries.{total_few}
 use Rattle.domains.proofs.Release.{releasing_start, released}
 use Rattle.engine.proofs.Beside.{named_both, names_rest}
-use Rattle.engine.proofs.Frees.{kept_trans}
+use Rattle.engine.proofs.Kept.{kept_trans}
 use Rattle.engine.proofs.release.release.Goals as goal
 
 pub loop-returning-smaller : goal.loop-returning-smaller
 loop-returning-smaller c =
     let few : total c.free_beside.new.d.sets ≤ 64 * length c.free_beside.new.d.sets =
-    total_few c.free_beside.new.d.sets c.free_beside.ensures.roomy.sized.wide
+    total_few c.free_beside.new.d.sets c.free_beside.new.d.wide
     in
-    omega (arith, few, c.free_beside.ensures.roomy.sized.sets, c.free_beside.ensures.grew.even, c.free_beside.ensures.grew.more, c.in-Some.ensures.len)
+    omega (arith, few, c.free_beside.new.d.sets_long, c.free_beside.ensures.grew.even, c.free_beside.ensures.grew.more, c.in-Some.ensures.len)
 
 pub loop-returning-preserved : goal.loop-returning-preserved
 loop-returning-preserved c =
@@ -41,7 +41,7 @@ returns c =
     let S : List Returning → Type 0 = λ w. Releasing n p d d w in
     let E : List Returning → Type 0 = λ w. Releasing n p d d₃ w in
     let r₁ : Releasing n p d d₁ (waits c.free_among.new.q) =
-    c.free_among.ensures.frees p d [] (names_rest n p _ all d) (subst S (sym c.requires.empty.0) (releasing_start n p d c.requires.sound))
+    c.free_among.ensures.frees p d [] (names_rest n p _ all d) (subst S (sym c.requires.empty) (releasing_start n p d c.requires.sound))
     in
     let r₂ : Releasing n p d d₂ (waits c.free_among-2.new.q) = c.free_among-2.ensures.frees p d [] (names_rest n p _ all d) r₁ in
     let r₃ : Releasing n p d d₃ [] = subst E c.in_default.ensures.waiting.0 (c.loop-returning.invariant.5 p d r₂) in
@@ -50,7 +50,6 @@ returns c =
           released n p d d₃ r₃
           (named_both n p all d d₁ d₂ d₃ c.requires.shape c.requires.sound c.free_among.ensures.grew.why c.free_among-2.ensures.grew.why
           c.free_among-2.ensures.grew.shown c.loop-returning.invariant.2 c.below-all.ensures c.free_among.ensures.freed c.free_among-2.ensures.freed);
-      sized = c.loop-returning.invariant.0.sized;
       inside = c.loop-returning.invariant.0.inside;
       clock = c.loop-returning.invariant.1 ∙ c.free_among-2.ensures.grew.clock ∙ c.free_among.ensures.grew.clock;
       more = omega (arith, c.loop-returning.invariant.3, c.free_among.ensures.grew.more, c.free_among-2.ensures.grew.more);

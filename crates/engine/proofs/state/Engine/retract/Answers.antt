@@ -15,9 +15,6 @@ returns-then-not-can_retract c =
       past_returning = record { long = refl; rest = refl };
     }
 
-pub count-before-requires : goal.count-before-requires
-count-before-requires c = (stands_out c.args.self.now.constraints c.args.self.now.domains c.args.self.now.stands).sound.sized
-
 pub take_out-requires : goal.take_out-requires
 take_out-requires c =
     let a =
@@ -31,9 +28,6 @@ take_out-requires c =
       room = a.wide;
       returns = a.returns;
     }
-
-pub count-requires : goal.count-requires
-count-requires c = c.take_out.ensures.stands.sound.sized
 
 pub overflow_sub-result : goal.overflow_sub-result
 overflow_sub-result c = omega (
@@ -57,8 +51,8 @@ returns c =
             right = right_now c.take_out.new.c c.take_out.new.d c.take_out.ensures.stands;
             grew = c.take_out.ensures.grew;
             kept = c.take_out.ensures.kept;
-            later = c.take_out.ensures.clock.0;
-            soon = c.take_out.ensures.clock.1;
+            later = c.take_out.ensures.later;
+            soon = c.take_out.ensures.soon;
             count = omega (
               arith,
               more_shown c.args.self.now.constraints c.take_out.new.c c.args.self.now.domains c.take_out.new.d
