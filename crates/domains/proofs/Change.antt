@@ -11,7 +11,7 @@ use Rattle.justify.proofs.Keeps.{more_keeps, release_keeps, same_trans}
 use Rattle.domains.specs.declared.Constraints.{Constraints}
 use Rattle.domains.specs.declared.Domains.{Domains}
 use Rattle.domains.specs.Model.{within, is_present, left_of, right_of, pair_at, arcs_of, shown, standing, total, reason_is}
-use Rattle.domains.specs.Sound.{Arrays, Shape, Sized, Sound, Went, Supported, Settled}
+use Rattle.domains.specs.Sound.{Arrays, Shape, Sound, Went, Supported, Settled}
 use Rattle.domains.specs.Stands.{Stands, with_present}
 use Rattle.domains.proofs.Entries.{total_few}
 use Rattle.domains.proofs.Facing.{on_present, tied_low}
@@ -81,7 +81,6 @@ module _ (c : Constraints) (d : Domains) (p : ℕ) (low : p < 128) (stands : Sta
   pub sound_in : Sound (with_present c p true) d
   sound_in =
       record {
-        sized = stands.sound.sized;
         inside = stands.sound.inside;
         justified = more_keeps (arcs_of c) (arcs_of (with_present c p true)) (within c) (standing d) more_in stands.sound.justified;
         timed = stands.sound.timed;
@@ -93,10 +92,10 @@ module _ (c : Constraints) (d : Domains) (p : ℕ) (low : p < 128) (stands : Sta
       (λ i x on h. stands.consistent i r x on h)
 
 -- the clock does not run over
-pub time_left : (d : Domains) → Sized d → d.clock ≤ 4294965247 → d.clock + total d.sets < 2 ^ 32
-time_left d sized h =
-    let few : total d.sets ≤ 64 * length d.sets = total_few d.sets sized.wide in
-    omega (arith, few, sized.sets)
+pub time_left : (d : Domains) → d.clock ≤ 4294965247 → d.clock + total d.sets < 2 ^ 32
+time_left d h =
+    let few : total d.sets ≤ 64 * length d.sets = total_few d.sets d.wide in
+    omega (arith, few, d.sets_long)
 
 -- ---- a constraint goes out
 
@@ -130,10 +129,9 @@ module _ (c : Constraints) (d d' : Domains) (p : ℕ) (low : p < 128) (stands : 
     release_kept =
         release_keeps (arcs_of c) (arcs_of (with_present c p false)) (within c) (reason_is p) (standing d) (standing d') d.clock stands.sound.timed except_out rel stands.sound.justified
 
-    pub sound_out : Sized d' → Inside (within c) (shown d') → Sound (with_present c p false) d'
-    sound_out sized inside =
+    pub sound_out : Inside (within c) (shown d') → Sound (with_present c p false) d'
+    sound_out inside =
         record {
-          sized = sized;
           inside = inside;
           justified = release_kept.justified;
           timed = subst (λ t. Timed (within c) (standing d') t) (sym clock) release_kept.timed;

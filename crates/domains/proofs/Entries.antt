@@ -1,12 +1,13 @@
 -- One entry of an array is written: what is read then, and how many values the sets have.
 use Rattle.std.proofs.Common.{◌≡◌, ℕ, zero, suc, ◌+◌, ◌*◌, ◌^◌, ◌<◌, ◌≤◌, true, cond, ltb, ◌≢◌, List, [], ◌∷◌, ◌++◌, length, get_or, take, set, replicate, sym, ap, ◌∙◌, subst, ⊎_elim, arith}
 use lib.Count.{ones, ones-le}
-use Rattle.std.proofs.lemmas.List.{get_or-set_same, get_or-set_other, get_or-replicate, get_or_past, length-replicate, take_more, take_all}
+use Rattle.std.proofs.lemmas.List.{get_or-map, get_or-set_same, get_or-set_other, get_or-replicate, get_or_past, length-replicate, take_more, take_all}
 use Rattle.std.proofs.lemmas.Bool.{cases_lt, cases_eq, lt-ltb, le-ltb, cond-true, cond-false, eq-eqb, eqb-true}
 use Rattle.bits.specs.Bits.{bit_at, has_bit, domains_of}
 use Rattle.bits.proofs.Bitwise.{bit_cases}
 use Rattle.bits.proofs.Edits.{ones_inside}
-use Rattle.domains.specs.Model.{entry, total}
+use Rattle.domains.specs.declared.Justification.{Justification}
+use Rattle.domains.specs.Model.{entry, reasons_of, times_of, total}
 
 pub entry_same : (xs : List ℕ) (i x v : ℕ) → x < 64 → 64 * i + x < length xs → entry (set xs (64 * i + x) v) i x ≡ v
 unfolding entry
@@ -36,6 +37,15 @@ total_few (d ∷ ds) h = omega (arith, ones-le 64 d (h 0), total_few ds (λ i. h
 pub entry_read : (xs : List ℕ) (i x : ℕ) → x < 64 → entry xs i x ≡ get_or xs (64 * i + x) 0
 unfolding entry
 entry_read xs i x h = cond-true (ltb x 64) _ 0 (lt-ltb x 64 h)
+
+-- what stands in an array of justifications
+pub reason_read : (why : List Justification) (i x : ℕ) → x < 64 → 64 * i + x < length why → entry (reasons_of why) i x ≡ (get_or why (64 * i + x) (record { constraint = 0; time = 0 })).constraint
+reason_read why i x h l =
+    entry_read (reasons_of why) i x h ∙ get_or-map (λ (j : Justification). j.constraint) why (64 * i + x) (record { constraint = 0; time = 0 }) 0 l
+
+pub time_read : (why : List Justification) (i x : ℕ) → x < 64 → 64 * i + x < length why → entry (times_of why) i x ≡ (get_or why (64 * i + x) (record { constraint = 0; time = 0 })).time
+time_read why i x h l =
+    entry_read (times_of why) i x h ∙ get_or-map (λ (j : Justification). j.time) why (64 * i + x) (record { constraint = 0; time = 0 }) 0 l
 
 total-append : (xs ys : List ℕ) → total (xs ++ ys) ≡ total xs + total ys
 total-append [] ys = omega arith

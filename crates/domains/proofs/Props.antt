@@ -14,7 +14,7 @@ use Rattle.justify.proofs.Reach.{justified_largest}
 use Rattle.domains.specs.declared.Constraints.{Constraints}
 use Rattle.domains.specs.declared.Domains.{Domains}
 use Rattle.domains.specs.Model.{within, arcs_of, shown, standing}
-use Rattle.domains.specs.Sound.{Arrays, Shape, Sized, Sound}
+use Rattle.domains.specs.Sound.{Arrays, Shape, Sound}
 use Rattle.domains.specs.Stands.{Stands}
 use Rattle.domains.proofs.Facing.{Seen, seen}
 use Rattle.domains.proofs.Revise.{support_yes, support_no}
@@ -43,15 +43,6 @@ shape_prop c x y i =
       mirror = Π_prop (λ _. Π_prop (λ _. Π_prop (λ _. Π_prop (λ _. Π_prop (λ _. Π_prop (λ _. Bool-set _ _)))))) x.mirror y.mirror i;
     }
 
-sized_prop : (d : Domains) → IsProp (Sized d)
-sized_prop d x y i =
-    record {
-      sets = ℕ_set _ _ x.sets y.sets i;
-      reasons = ℕ_set _ _ x.reasons y.reasons i;
-      times = ℕ_set _ _ x.times y.times i;
-      wide = Π_prop (λ _. le) x.wide y.wide i;
-    }
-
 accounts_prop : (c : Constraints) (s : Standing) (i x r t : ℕ) → IsProp (Accounts (arcs_of c) (within c) s i x r t)
 accounts_prop c s i x r t a b k =
     record {
@@ -71,22 +62,21 @@ timed_prop b s clock x y i =
 pub sound_prop : (c : Constraints) (d : Domains) → IsProp (Sound c d)
 sound_prop c d x y i =
     record {
-      sized = sized_prop d x.sized y.sized i;
       inside = Π_prop (λ _. Π_prop (λ _. Π_prop (λ _. Bool-set _ _))) x.inside y.inside i;
       justified = Π_prop (λ j. Π_prop (λ z. Π_prop (λ _. accounts_prop c (standing d) j z _ _))) x.justified y.justified i;
       timed = timed_prop (within c) (standing d) d.clock x.timed y.timed i;
     }
 
 -- a support that cannot be wanting is found
-find_support : (c : Constraints) (d : Domains) → Shape c → Sized d → (i r x : ℕ) → (arcs_of c).on i r ≡ true → x < 64 → ((Support (arcs_of c) (shown d) i r x → ⊥) → ⊥) → Support (arcs_of c) (shown d) i r x
-find_support c d shape sized i r x on low some =
+find_support : (c : Constraints) (d : Domains) → Shape c → (i r x : ℕ) → (arcs_of c).on i r ≡ true → x < 64 → ((Support (arcs_of c) (shown d) i r x → ⊥) → ⊥) → Support (arcs_of c) (shown d) i r x
+find_support c d shape i r x on low some =
     let s : Seen c i r = seen c i r shape on in
     let P : ℕ → ℕ → Type 0 = λ j p. Support (arcs_of c) (shown d) j p x in
     let n : ℕ = bit_and (get_or d.sets s.arc.far 0) (get_or c.rows (s.arc.rows + x) 0) in
     subst₂ P s.near s.constraint
     (⊎_elim
-    (λ z. absurd (some (λ h. support_no c d s.arc s.facing sized x low z (subst₂ P (sym s.near) (sym s.constraint) h))))
-    (λ nz. support_yes c d s.arc s.facing sized x low (omega arith))
+    (λ z. absurd (some (λ h. support_no c d s.arc s.facing x low z (subst₂ P (sym s.near) (sym s.constraint) h))))
+    (λ nz. support_yes c d s.arc s.facing x low (omega arith))
     (cases_eq n 0))
 
 pub stands_out : (c : Constraints) (d : Domains) → ∥ Stands c d ∥₁ → Stands c d
@@ -97,7 +87,7 @@ stands_out c d t =
       shape = shape;
       sound = sound;
       consistent = λ i r x on h.
-          find_support c d shape sound.sized i r x on (has_low 64 (get_or d.sets i 0) x (sound.sized.wide i) h)
+          find_support c d shape i r x on (has_low 64 (get_or d.sets i 0) x (d.wide i) h)
           (λ no. ∥∥₁_elim t ⊥_prop (λ s. no (s.consistent i r x on h)));
     }
 

@@ -14,11 +14,11 @@ use Rattle.domains.specs.declared.Arc.{Arc}
 use Rattle.domains.specs.declared.Constraints.{Constraints}
 use Rattle.domains.specs.declared.Domains.{Domains}
 use Rattle.domains.specs.Model.{within, arcs_of, shown, standing, total}
-use Rattle.domains.specs.Sound.{Sized, Sound, Went, Facing, Revising}
+use Rattle.domains.specs.Sound.{Sound, Went, Facing, Revising}
 use Rattle.domains.proofs.Values.{out_total}
 
-pub total_positive : (d : Domains) (i x : ℕ) → i < 32 → x < 64 → Sized d → shown d i x ≡ true → 0 < total d.sets
-total_positive d i x low fits sized was = omega (arith, out_total d i x low fits sized 0 was)
+pub total_positive : (d : Domains) (i x : ℕ) → i < 32 → x < 64 → shown d i x ≡ true → 0 < total d.sets
+total_positive d i x low fits was = omega (arith, out_total d i x low fits 0 was)
 
 -- ---- values go out
 
@@ -48,35 +48,35 @@ module _ (c : Constraints) (d d' : Domains) (i x p : ℕ) (sound : Sound c d) (p
       (λ ne. sym (put.others j y (λ q. ne q.1)).shown ∙ h) (cases_eq x y))
       (λ ne. sym (put.others j y (λ q. ne q.0)).shown ∙ h) (cases_eq i j)
 
-  pub went_out : (arcs_of c).on i p ≡ true → (Support (arcs_of c) (shown d) i p x → ⊥) → Sized d' → d'.clock ≡ d.clock + 1 → total d'.sets + 1 ≡ total d.sets → Sound c d' × Went c d d'
-  went_out on none sized clock fewer =
+  pub went_out : (arcs_of c).on i p ≡ true → (Support (arcs_of c) (shown d) i p x → ⊥) → d'.clock ≡ d.clock + 1 → total d'.sets + 1 ≡ total d.sets → Sound c d' × Went c d d'
+  went_out on none clock fewer =
       let k : OutKept (arcs_of c) (within c) (standing d) (standing d') d.clock =
       put_out_keeps (arcs_of c) (within c) (standing d) (standing d') i x p d.clock sound.timed put on none sound.justified
       in
       let t : Timed (within c) (standing d') d'.clock = rw clock k.timed in (
-        record { sized = sized; inside = λ j y h. sound.inside j y (shown_before j y h); justified = k.justified; timed = t },
+        record { inside = λ j y h. sound.inside j y (shown_before j y h); justified = k.justified; timed = t },
         record { fewer = shown_before; kept = k.kept; spent = omega arith; later = omega arith; idle = λ e. absurd (omega arith) },
       )
 
 -- ---- supports by bits
 
-module _ (c : Constraints) (d : Domains) (a : Arc) (facing : Facing c a) (sized : Sized d) (x : ℕ) (low : x < 64) where
+module _ (c : Constraints) (d : Domains) (a : Arc) (facing : Facing c a) (x : ℕ) (low : x < 64) where
   pub support_yes : 0 < bit_and (get_or d.sets a.far 0) (get_or c.rows (a.rows + x) 0) → Support (arcs_of c) (shown d) a.near a.constraint x
   support_yes h =
       let s : (y : ℕ) × (has_bit (get_or d.sets a.far 0) y ≡ true) × (has_bit (get_or c.rows (a.rows + x) 0) y ≡ true) =
-      share 64 (get_or d.sets a.far 0) (get_or c.rows (a.rows + x) 0) (sized.wide a.far) h
+      share 64 (get_or d.sets a.far 0) (get_or c.rows (a.rows + x) 0) (d.wide a.far) h
       in
       record {
         value = s.0;
         shown = ap (λ j. shown d j s.0) facing.far ∙ s.1;
-        beside = facing.fits x s.0 low (has_low 64 (get_or d.sets a.far 0) s.0 (sized.wide a.far) s.1) ∙ s.2;
+        beside = facing.fits x s.0 low (has_low 64 (get_or d.sets a.far 0) s.0 (d.wide a.far) s.1) ∙ s.2;
       }
 
   pub support_no : bit_and (get_or d.sets a.far 0) (get_or c.rows (a.rows + x) 0) ≡ 0 → Support (arcs_of c) (shown d) a.near a.constraint x → ⊥
   support_no e s =
       let h : shown d a.far s.value ≡ true = ap (λ j. shown d j s.value) (sym facing.far) ∙ s.shown in
       let f : has_bit (get_or c.rows (a.rows + x) 0) s.value ≡ true =
-      sym (facing.fits x s.value low (has_low 64 (get_or d.sets a.far 0) s.value (sized.wide a.far) h)) ∙ s.beside
+      sym (facing.fits x s.value low (has_low 64 (get_or d.sets a.far 0) s.value (d.wide a.far) h)) ∙ s.beside
       in
       let g : 0 < bit_and (get_or d.sets a.far 0) (get_or c.rows (a.rows + x) 0) = share_positive (get_or d.sets a.far 0) (get_or c.rows (a.rows + x) 0) s.value h f in
       omega arith
@@ -113,12 +113,12 @@ module _ (c : Constraints) (d d' d'' : Domains) (a : Arc) (x : ℕ) (facing : Fa
   other_value : (k : ℕ) → (x ≡ k → ⊥) → shown d'' a.near k ≡ shown d' a.near k
   other_value k ne = (put.others a.near k (λ e. ne e.1)).shown
 
-  pub revising_out : (Support (arcs_of c) (shown d) a.near a.constraint x → ⊥) → Sized d'' → d''.clock ≡ d'.clock + 1 → total d''.sets + 1 ≡ total d'.sets → ((j : ℕ) → (j ≡ a.near → ⊥) → get_or d''.sets j 0 ≡ get_or d'.sets j 0) → Revising c d d'' a (x + 1)
-  revising_out none sized clock fewer others =
+  pub revising_out : (Support (arcs_of c) (shown d) a.near a.constraint x → ⊥) → d''.clock ≡ d'.clock + 1 → total d''.sets + 1 ≡ total d'.sets → ((j : ℕ) → (j ≡ a.near → ⊥) → get_or d''.sets j 0 ≡ get_or d'.sets j 0) → Revising c d d'' a (x + 1)
+  revising_out none clock fewer others =
       let none' : Support (arcs_of c) (shown d') a.near a.constraint x → ⊥ =
       λ s. none (record { value = s.value; shown = r.went.fewer ((arcs_of c).far a.near a.constraint) s.value s.shown; beside = s.beside })
       in
-      let k : Sound c d'' × Went c d' d'' = went_out c d' d'' a.near x a.constraint r.sound put facing.on none' sized clock fewer in
+      let k : Sound c d'' × Went c d' d'' = went_out c d' d'' a.near x a.constraint r.sound put facing.on none' clock fewer in
       record {
         sound = k.0;
         went = went_trans c d d' d'' r.went k.1;

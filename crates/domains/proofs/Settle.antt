@@ -9,11 +9,11 @@ use Rattle.domains.specs.declared.Arc.{Arc}
 use Rattle.domains.specs.declared.Constraints.{Constraints}
 use Rattle.domains.specs.declared.Domains.{Domains}
 use Rattle.domains.specs.Model.{left_of, arcs_of, shown}
-use Rattle.domains.specs.Sound.{Shape, Sized, Facing, Revising, Supported, Settled, SettledBut}
+use Rattle.domains.specs.Sound.{Shape, Facing, Revising, Supported, Settled, SettledBut}
 use Rattle.domains.proofs.Facing.{on_at_far, on_left, on_low, on_present}
 
-shown_low : (d : Domains) → Sized d → (i x : ℕ) → shown d i x ≡ true → x < 64
-shown_low d sized i x h = has_low 64 (get_or d.sets i 0) x (sized.wide i) h
+shown_low : (d : Domains) → (i x : ℕ) → shown d i x ≡ true → x < 64
+shown_low d i x h = has_low 64 (get_or d.sets i 0) x (d.wide i) h
 
 -- the same sets show the same values
 pub shown-set : (d d' : Domains) (j : ℕ) → get_or d'.sets j 0 ≡ get_or d.sets j 0 → (y : ℕ) → shown d' j y ≡ shown d j y
@@ -66,12 +66,12 @@ module _ (c : Constraints) (d d' d'' : Domains) (a b : Arc) (fa : Facing c a) (f
   at_near : (x : ℕ) → shown d'' a.near x ≡ true → Support (arcs_of c) (shown d'') a.near a.constraint x
   at_near x h =
       let h' : shown d' a.near x ≡ true = sym (near_kept x) ∙ h in
-      let low : x < 64 = shown_low d' ra.sound.sized a.near x h' in
+      let low : x < 64 = shown_low d' a.near x h' in
       let s : Support (arcs_of c) (shown d) a.near a.constraint x = ra.below.supported x low h' in
       let y : ℕ = s.value in
       let there : shown d' a.far y ≡ true = far_kept y ∙ ap (λ j. shown d j y) (sym fa.far) ∙ s.shown in
       let there' : shown d' b.near y ≡ true = ap (λ j. shown d' j y) near ∙ there in
-      let ylow : y < 64 = shown_low d' ra.sound.sized a.far y there in
+      let ylow : y < 64 = shown_low d' a.far y there in
       let t : Support (arcs_of c) (shown d') b.near b.constraint y =
       record {
         value = x;
@@ -87,7 +87,7 @@ module _ (c : Constraints) (d d' d'' : Domains) (a b : Arc) (fa : Facing c a) (f
 
   at_far : (y : ℕ) → shown d'' b.near y ≡ true → Support (arcs_of c) (shown d'') b.near b.constraint y
   at_far y h =
-      let low : y < 64 = shown_low d'' rb.sound.sized b.near y h in
+      let low : y < 64 = shown_low d'' b.near y h in
       let s : Support (arcs_of c) (shown d') b.near b.constraint y = rb.below.supported y low h in
       let e : (arcs_of c).far b.near b.constraint ≡ a.near = fb.far ∙ far_back in
       record {

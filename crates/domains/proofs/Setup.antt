@@ -1,9 +1,9 @@
 -- To begin with nothing is in and everything is shown; and a constraint that is not in may have any ends and rows.
-use Rattle.std.proofs.Common.{◌≡◌, ℕ, ◌+◌, ◌*◌, ◌^◌, ◌<◌, ◌≤◌, min, true, false, cond, ◌&&◌, ◌||◌, eqb, ltb, ◌⊎◌, List, length, get_or, set, replicate, sym, refl, ap, ◌∙◌, subst, inl, inr, ⊎_elim, arith}
+use Rattle.std.proofs.Common.{◌≡◌, ℕ, ◌+◌, ◌*◌, ◌<◌, ◌≤◌, min, true, false, cond, ◌&&◌, ◌||◌, eqb, ltb, ◌⊎◌, List, length, get_or, set, replicate, sym, refl, ap, ◌∙◌, subst, inl, inr, ⊎_elim, arith}
 use Rattle.std.proofs.lemmas.List.{get_or_past, get_or-replicate, length-replicate, get_or-set_same, get_or-set_other, length-set}
 use Rattle.std.proofs.lemmas.Bool.{cases_lt, cases_eq, cases_Bool, both_ways, lt-ltb, le-ltb, and_from}
 use Rattle.arcs.specs.Family.{Support, Inside, within_sizes}
-use Rattle.bits.specs.Bits.{has_bit, domains_of}
+use Rattle.bits.specs.Bits.{has_bit}
 use Rattle.bits.proofs.Bitwise.{bit_of_zero}
 use Rattle.justify.specs.Standing.{Out, Justified, Timed}
 use Rattle.justify.specs.Changes.{MoreReasons}
@@ -11,7 +11,7 @@ use Rattle.justify.proofs.Keeps.{more_keeps}
 use Rattle.domains.specs.declared.Constraints.{Constraints}
 use Rattle.domains.specs.declared.Domains.{Domains}
 use Rattle.domains.specs.Model.{within, is_present, left_of, right_of, pair_at, arcs_of, shown, standing}
-use Rattle.domains.specs.Sound.{Shape, Sized}
+use Rattle.domains.specs.Sound.{Shape}
 use Rattle.domains.specs.Stands.{Stands, Loaded}
 use Rattle.domains.specs.Make.{no_constraints, no_domains}
 use Rattle.domains.proofs.Entries.{zero_at}
@@ -23,13 +23,12 @@ none_at n p =
 
 -- ---- nothing is in, and everything is shown
 
-pub stands_full : (c : Constraints) (d : Domains) → Shape c → Sized d → ((p : ℕ) → is_present c p ≡ false) → ((i x : ℕ) → shown d i x ≡ within c i x) → Stands c d
-stands_full c d shape sized none all =
+pub stands_full : (c : Constraints) (d : Domains) → Shape c → ((p : ℕ) → is_present c p ≡ false) → ((i x : ℕ) → shown d i x ≡ within c i x) → Stands c d
+stands_full c d shape none all =
     record {
       shape = shape;
       sound =
           record {
-            sized = sized;
             inside = λ i x h. sym (all i x) ∙ h;
             justified = λ i x o. absurd (nothing i x o);
             timed = record { below = λ i x o. absurd (nothing i x o); apart = λ i x j y o _ _. absurd (nothing i x o) };
@@ -63,12 +62,6 @@ stands_none =
           (ap (λ n. has_bit n x) (zero_at 16384 (128 * p + 64 + y)) ∙ zero_bit x)
           ∙ sym (ap (λ n. has_bit n y) (zero_at 16384 (128 * p + x)) ∙ zero_bit y);
     })
-    (record {
-      sets = length-replicate {A = ℕ} 32 0;
-      reasons = length-replicate {A = ℕ} 2048 0;
-      times = length-replicate {A = ℕ} 2048 0;
-      wide = λ i. omega (arith, zero_at 32 i);
-    })
     (none_at 128)
     (λ i x.
     (ap (λ n. has_bit n x) (zero_at 32 i) ∙ zero_bit x)
@@ -87,27 +80,23 @@ both_small x n h =
 abbrev pub reopened : Constraints → List ℕ → Constraints
 reopened c sizes = record { sizes = sizes; present = replicate 128 false; left = c.left; right = c.right; rows = c.rows }
 
--- the domains with these sets at this time
-abbrev pub refilled : Domains → List ℕ → ℕ → Domains
-refilled d sets clock = record { sets = sets; why = d.why; clock = clock }
-
 pub sizes_small : (sizes given : List ℕ) → ((i : ℕ) → get_or sizes i 0 ≡ cond (ltb i 32) (min 64 (get_or given i 0)) 0) → (i : ℕ) → get_or sizes i 0 ≤ 64
 sizes_small sizes given e i =
     ⊎_elim (λ t. omega (arith, e i ∙ ap (λ b. cond b (min 64 (get_or given i 0)) 0) t)) (λ f. omega (arith, e i ∙ ap (λ b. cond b (min 64 (get_or given i 0)) 0) f))
     (cases_Bool (ltb i 32))
 
-module _ (c : Constraints) (d : Domains) (sizes sets : List ℕ) (clock : ℕ) (stands : Stands c d) (long : length sizes ≡ 32) (small : (i : ℕ) → get_or sizes i 0 ≤ 64) (wide : (i : ℕ) → get_or sets i 0 < 2 ^ 64) (many : length sets ≡ 32) (full : (i x : ℕ) → i < 32 → domains_of sets i x ≡ (ltb x (get_or sizes i 0) && ltb x 64)) where
-  pub all_shown : (i x : ℕ) → shown (refilled d sets clock) i x ≡ within (reopened c sizes) i x
+module _ (c : Constraints) (d d' : Domains) (sizes : List ℕ) (stands : Stands c d) (long : length sizes ≡ 32) (small : (i : ℕ) → get_or sizes i 0 ≤ 64) (full : (i x : ℕ) → i < 32 → shown d' i x ≡ (ltb x (get_or sizes i 0) && ltb x 64)) where
+  pub all_shown : (i x : ℕ) → shown d' i x ≡ within (reopened c sizes) i x
   all_shown i x =
       ⊎_elim (λ l. full i x l ∙ both_small x (get_or sizes i 0) (small i))
       (λ g.
-      (ap (λ n. has_bit n x) (get_or_past sets i 0 (omega arith)) ∙ zero_bit x)
+      (ap (λ n. has_bit n x) (get_or_past d'.sets i 0 (omega (arith, d'.sets_long))) ∙ zero_bit x)
       ∙ sym (ap (λ n. ltb x n) (get_or_past sizes i 0 (omega arith)) ∙ le-ltb x 0 (omega arith)))
       (cases_lt i 32)
 
-  pub stands_open : Stands (reopened c sizes) (refilled d sets clock)
+  pub stands_open : Stands (reopened c sizes) d'
   stands_open =
-      stands_full (reopened c sizes) (refilled d sets clock)
+      stands_full (reopened c sizes) d'
       (record {
         arrays =
             record {
@@ -123,7 +112,6 @@ module _ (c : Constraints) (d : Domains) (sizes sets : List ℕ) (clock : ℕ) (
         apart = λ p h _. both_ways (is_present (reopened c sizes) p) (none_at 128 p) h;
         mirror = stands.shape.mirror;
       })
-      (record { sets = many; reasons = stands.sound.sized.reasons; times = stands.sound.sized.times; wide = wide })
       (none_at 128)
       all_shown
 
@@ -164,7 +152,6 @@ module _ (c c' : Constraints) (d : Domains) (p left right : ℕ) (rows : List �
         shape = shape;
         sound =
             record {
-              sized = s.sound.sized;
               inside = subst (λ z. Inside (within_sizes z) (shown d)) (sym l.sizes) s.sound.inside;
               justified =
                   subst (λ z. Justified (arcs_of c') (within_sizes z) (standing d)) (sym l.sizes)

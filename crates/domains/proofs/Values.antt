@@ -4,31 +4,16 @@ use lib.Bits.{bit_xor, bit_or, xor_lt, or_lt}
 use lib.Count.{ones}
 use lib.Pow.{pow-lt}
 use Rattle.std.proofs.lemmas.Nat.{one_shl}
-use Rattle.std.proofs.lemmas.List.{get_or-set_same, get_or-set_other, length-set}
+use Rattle.std.proofs.lemmas.List.{get_or-set_same, get_or-set_other, length-map, length-set, map-set}
 use Rattle.std.proofs.lemmas.Bool.{cases_eq, eq-eqb, ne_eqb, eqb-true, eqb-false}
 use Rattle.bits.specs.Bits.{bit_at, has_bit, domains_of}
 use Rattle.bits.proofs.Bitwise.{bit_low}
 use Rattle.bits.proofs.Edits.{has_cleared, has_added, ones_cleared, ones_added}
 use Rattle.justify.specs.Changes.{PutOut, PutBack}
 use Rattle.domains.specs.declared.Domains.{Domains}
-use Rattle.domains.specs.Model.{shown, standing, total}
-use Rattle.domains.specs.Sound.{Sized}
+use Rattle.domains.specs.declared.Justification.{Justification}
+use Rattle.domains.specs.Model.{entry, reasons_of, shown, standing, times_of, total}
 use Rattle.domains.proofs.Entries.{entry_same, entry_other, total-set}
-
--- the data after a value went out, and after one came back
-abbrev pub without : Domains → ℕ → ℕ → ℕ → Domains
-without d i x p = record {
-  sets = set d.sets i (bit_xor (get_or d.sets i 0) ((1 * 2 ^ x) % 2 ^ 64));
-  why = record { reasons = set d.why.reasons (64 * i + x) p; times = set d.why.times (64 * i + x) d.clock };
-  clock = d.clock + 1;
-}
-
-abbrev pub with_value : Domains → ℕ → ℕ → Domains
-with_value d i x = record {
-  sets = set d.sets i (bit_or (get_or d.sets i 0) ((1 * 2 ^ x) % 2 ^ 64));
-  why = d.why;
-  clock = d.clock;
-}
 
 and_no : (b : Bool) → (b && not true) ≡ false
 and_no true = refl
@@ -61,90 +46,99 @@ bit_none : (d x : ℕ) → has_bit d x ≡ false → bit_at d x ≡ 0
 bit_none d x h =
     let ne : bit_at d x ≡ 1 → ⊥ = eqb-false (bit_at d x) 1 h in let lt : bit_at d x < 2 = bit_low d x in omega arith
 
-module _ (d : Domains) (i x : ℕ) (low : i < 32) (fits : x < 64) (sized : Sized d) where
+module _ (d : Domains) (i x : ℕ) (low : i < 32) (fits : x < 64) where
   pub sets_others : (v j : ℕ) → (j ≡ i → ⊥) → get_or (set d.sets i v) j 0 ≡ get_or d.sets j 0
   sets_others v j ne = get_or-set_other d.sets i j v 0 ne
 
-  sets_wide : (v : ℕ) → v < 2 ^ 64 → (j : ℕ) → get_or (set d.sets i v) j 0 < 2 ^ 64
+  pub sets_wide : (v : ℕ) → v < 2 ^ 64 → (j : ℕ) → get_or (set d.sets i v) j 0 < 2 ^ 64
   sets_wide v h j =
-      ⊎_elim (λ e. rw e (omega (arith, get_or-set_same d.sets i v 0 (omega (arith, sized.sets)))))
-      (λ ne. omega (arith, sets_others v j ne, sized.wide j)) (cases_eq j i)
+      ⊎_elim (λ e. rw e (omega (arith, get_or-set_same d.sets i v 0 (omega (arith, d.sets_long)))))
+      (λ ne. omega (arith, sets_others v j ne, d.wide j)) (cases_eq j i)
 
-  pub put_out : (p : ℕ) → shown d i x ≡ true → PutOut (standing d) (standing (without d i x p)) i x p d.clock
+  -- the data after the value went out, and after it came back
+  abbrev pub without : ℕ → Domains
+  without p = record {
+    sets = set d.sets i (bit_xor (get_or d.sets i 0) ((1 * 2 ^ x) % 2 ^ 64));
+    why = set d.why (64 * i + x) (record { constraint = p; time = d.clock });
+    clock = d.clock + 1;
+    sets_long = length-set d.sets i _ ∙ d.sets_long;
+    why_long = length-set d.why (64 * i + x) (record { constraint = p; time = d.clock }) ∙ d.why_long;
+    wide = sets_wide (bit_xor (get_or d.sets i 0) ((1 * 2 ^ x) % 2 ^ 64)) (rw (one_shl x 64 fits) (xor_lt 64 (get_or d.sets i 0) (2 ^ x) (d.wide i) (pow-lt fits)));
+  }
+
+  abbrev pub with_value : Domains
+  with_value = record {
+    sets = set d.sets i (bit_or (get_or d.sets i 0) ((1 * 2 ^ x) % 2 ^ 64));
+    why = d.why;
+    clock = d.clock;
+    sets_long = length-set d.sets i _ ∙ d.sets_long;
+    why_long = d.why_long;
+    wide = sets_wide (bit_or (get_or d.sets i 0) ((1 * 2 ^ x) % 2 ^ 64)) (rw (one_shl x 64 fits) (or_lt 64 (get_or d.sets i 0) (2 ^ x) (d.wide i) (pow-lt fits)));
+  }
+
+  new_reasons : (p : ℕ) → reasons_of (without p).why ≡ set (reasons_of d.why) (64 * i + x) p
+  new_reasons p = map-set (λ (j : Justification). j.constraint) d.why (64 * i + x) (record { constraint = p; time = d.clock })
+
+  new_times : (p : ℕ) → times_of (without p).why ≡ set (times_of d.why) (64 * i + x) d.clock
+  new_times p = map-set (λ (j : Justification). j.time) d.why (64 * i + x) (record { constraint = p; time = d.clock })
+
+  pub put_out : (p : ℕ) → shown d i x ≡ true → PutOut (standing d) (standing (without p)) i x p d.clock
   put_out p was =
       record {
         shown = was;
         gone = here x ∙ ap (λ b. has_bit (get_or d.sets i 0) x && not b) (eq-eqb x x refl) ∙ and_no (has_bit (get_or d.sets i 0) x);
-        reason = entry_same d.why.reasons i x p fits (omega (arith, sized.reasons));
-        time = entry_same d.why.times i x d.clock fits (omega (arith, sized.times));
+        reason = ap (λ xs. entry xs i x) (new_reasons p) ∙ entry_same (reasons_of d.why) i x p fits (omega (arith, length-map d.why (λ (j : Justification). j.constraint), d.why_long));
+        time = ap (λ xs. entry xs i x) (new_times p) ∙ entry_same (times_of d.why) i x d.clock fits (omega (arith, length-map d.why (λ (j : Justification). j.time), d.why_long));
         others = λ j y ne.
             record {
-              shown = ⊎_elim (λ e. other_here j y ne e) (λ n. set_there d.sets i _ (omega (arith, sized.sets)) j y n) (cases_eq j i);
-              reason = entry_other d.why.reasons i x p j y fits ne;
-              time = entry_other d.why.times i x d.clock j y fits ne;
+              shown = ⊎_elim (λ e. other_here j y ne e) (λ n. set_there d.sets i _ (omega (arith, d.sets_long)) j y n) (cases_eq j i);
+              reason = ap (λ xs. entry xs j y) (new_reasons p) ∙ entry_other (reasons_of d.why) i x p j y fits ne;
+              time = ap (λ xs. entry xs j y) (new_times p) ∙ entry_other (times_of d.why) i x d.clock j y fits ne;
             };
       }
     where
-      here : (y : ℕ) → shown (without d i x p) i y ≡ (has_bit (get_or d.sets i 0) y && not (eqb x y))
+      here : (y : ℕ) → shown (without p) i y ≡ (has_bit (get_or d.sets i 0) y && not (eqb x y))
       here y =
-          set_here d.sets i (bit_xor (get_or d.sets i 0) ((1 * 2 ^ x) % 2 ^ 64)) (omega (arith, sized.sets)) y
+          set_here d.sets i (bit_xor (get_or d.sets i 0) ((1 * 2 ^ x) % 2 ^ 64)) (omega (arith, d.sets_long)) y
           ∙ ap (λ n. has_bit (bit_xor (get_or d.sets i 0) n) y) (one_shl x 64 fits)
           ∙ has_cleared (get_or d.sets i 0) x y was
 
-      other_here : (j y : ℕ) → ((i ≡ j) × (x ≡ y) → ⊥) → j ≡ i → shown (without d i x p) j y ≡ shown d j y
+      other_here : (j y : ℕ) → ((i ≡ j) × (x ≡ y) → ⊥) → j ≡ i → shown (without p) j y ≡ shown d j y
       other_here j y ne e =
           let apart : eqb x y ≡ false = ne_eqb x y (λ f. ne (sym e, f)) in
           rw e (here y ∙ ap (λ b. has_bit (get_or d.sets i 0) y && not b) apart ∙ and_yes (has_bit (get_or d.sets i 0) y))
 
-  pub out_sized : (p : ℕ) → Sized (without d i x p)
-  out_sized p =
-      record {
-        sets = length-set d.sets i _ ∙ sized.sets;
-        reasons = length-set d.why.reasons (64 * i + x) p ∙ sized.reasons;
-        times = length-set d.why.times (64 * i + x) d.clock ∙ sized.times;
-        wide = sets_wide (bit_xor (get_or d.sets i 0) ((1 * 2 ^ x) % 2 ^ 64)) (rw (one_shl x 64 fits) (xor_lt 64 (get_or d.sets i 0) (2 ^ x) (sized.wide i) (pow-lt fits)));
-      }
-
-  pub out_total : (p : ℕ) → shown d i x ≡ true → total (without d i x p).sets + 1 ≡ total d.sets
+  pub out_total : (p : ℕ) → shown d i x ≡ true → total (without p).sets + 1 ≡ total d.sets
   out_total p was =
       let v : ℕ = bit_xor (get_or d.sets i 0) ((1 * 2 ^ x) % 2 ^ 64) in
-      let e : ones v + 1 ≡ ones (get_or d.sets i 0) = ap (λ n. ones (bit_xor (get_or d.sets i 0) n) + 1) (one_shl x 64 fits) ∙ ones_cleared 64 (get_or d.sets i 0) x (sized.wide i) fits (bit_one (get_or d.sets i 0) x was) in
-      omega (arith, e, total-set d.sets i v (omega (arith, sized.sets)))
+      let e : ones v + 1 ≡ ones (get_or d.sets i 0) = ap (λ n. ones (bit_xor (get_or d.sets i 0) n) + 1) (one_shl x 64 fits) ∙ ones_cleared 64 (get_or d.sets i 0) x (d.wide i) fits (bit_one (get_or d.sets i 0) x was) in
+      omega (arith, e, total-set d.sets i v (omega (arith, d.sets_long)))
 
-  pub put_back : shown d i x ≡ false → PutBack (standing d) (standing (with_value d i x)) i x
+  pub put_back : shown d i x ≡ false → PutBack (standing d) (standing with_value) i x
   put_back was =
       record {
         back = here x ∙ ap (λ b. has_bit (get_or d.sets i 0) x || b) (eq-eqb x x refl) ∙ or_yes (has_bit (get_or d.sets i 0) x);
         others = λ j y ne.
             record {
-              shown = ⊎_elim (λ e. other_here j y ne e) (λ n. set_there d.sets i _ (omega (arith, sized.sets)) j y n) (cases_eq j i);
+              shown = ⊎_elim (λ e. other_here j y ne e) (λ n. set_there d.sets i _ (omega (arith, d.sets_long)) j y n) (cases_eq j i);
               reason = refl;
               time = refl;
             };
       }
     where
-      here : (y : ℕ) → shown (with_value d i x) i y ≡ (has_bit (get_or d.sets i 0) y || eqb x y)
+      here : (y : ℕ) → shown with_value i y ≡ (has_bit (get_or d.sets i 0) y || eqb x y)
       here y =
-          set_here d.sets i (bit_or (get_or d.sets i 0) ((1 * 2 ^ x) % 2 ^ 64)) (omega (arith, sized.sets)) y
+          set_here d.sets i (bit_or (get_or d.sets i 0) ((1 * 2 ^ x) % 2 ^ 64)) (omega (arith, d.sets_long)) y
           ∙ ap (λ n. has_bit (bit_or (get_or d.sets i 0) n) y) (one_shl x 64 fits)
           ∙ has_added (get_or d.sets i 0) x y
 
-      other_here : (j y : ℕ) → ((i ≡ j) × (x ≡ y) → ⊥) → j ≡ i → shown (with_value d i x) j y ≡ shown d j y
+      other_here : (j y : ℕ) → ((i ≡ j) × (x ≡ y) → ⊥) → j ≡ i → shown with_value j y ≡ shown d j y
       other_here j y ne e =
           let apart : eqb x y ≡ false = ne_eqb x y (λ f. ne (sym e, f)) in
           rw e (here y ∙ ap (λ b. has_bit (get_or d.sets i 0) y || b) apart ∙ or_no (has_bit (get_or d.sets i 0) y))
 
-  pub back_sized : Sized (with_value d i x)
-  back_sized =
-      record {
-        sets = length-set d.sets i _ ∙ sized.sets;
-        reasons = sized.reasons;
-        times = sized.times;
-        wide = sets_wide (bit_or (get_or d.sets i 0) ((1 * 2 ^ x) % 2 ^ 64)) (rw (one_shl x 64 fits) (or_lt 64 (get_or d.sets i 0) (2 ^ x) (sized.wide i) (pow-lt fits)));
-      }
-
-  pub back_total : shown d i x ≡ false → total (with_value d i x).sets ≡ total d.sets + 1
+  pub back_total : shown d i x ≡ false → total with_value.sets ≡ total d.sets + 1
   back_total was =
       let v : ℕ = bit_or (get_or d.sets i 0) ((1 * 2 ^ x) % 2 ^ 64) in
-      let e : ones v ≡ ones (get_or d.sets i 0) + 1 = ap (λ n. ones (bit_or (get_or d.sets i 0) n)) (one_shl x 64 fits) ∙ ones_added 64 (get_or d.sets i 0) x (sized.wide i) fits (bit_none (get_or d.sets i 0) x was) in
-      omega (arith, e, total-set d.sets i v (omega (arith, sized.sets)))
+      let e : ones v ≡ ones (get_or d.sets i 0) + 1 = ap (λ n. ones (bit_or (get_or d.sets i 0) n)) (one_shl x 64 fits) ∙ ones_added 64 (get_or d.sets i 0) x (d.wide i) fits (bit_none (get_or d.sets i 0) x was) in
+      omega (arith, e, total-set d.sets i v (omega (arith, d.sets_long)))

@@ -1,7 +1,10 @@
 -- Data to begin with.
-use Rattle.std.specs.Prelude.{false, replicate}
+use Rattle.std.specs.Prelude.{ℕ, false, replicate}
+use Rattle.std.proofs.lemmas.List.{length-replicate}
+use Rattle.domains.specs.Zeros.{zeros_wide}
 use Rattle.domains.specs.declared.Constraints.{Constraints}
 use Rattle.domains.specs.declared.Domains.{Domains}
+use Rattle.domains.specs.declared.Justification.{Justification}
 
 -- no variables, no constraint in, nothing allowed
 abbrev pub no_constraints : Constraints
@@ -9,4 +12,4 @@ no_constraints = record { sizes = replicate 32 0; present = replicate 128 false;
 
 -- no values, at time 0
 abbrev pub no_domains : Domains
-no_domains = record { sets = replicate 32 0; why = record { reasons = replicate 2048 0; times = replicate 2048 0 }; clock = 0 }
+no_domains = record { sets = replicate 32 0; why = replicate 2048 (record { constraint = 0; time = 0 }); clock = 0; sets_long = length-replicate {A = ℕ} 32 0; why_long = length-replicate {A = Justification} 2048 (record { constraint = 0; time = 0 }); wide = zeros_wide 32 }

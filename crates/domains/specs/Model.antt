@@ -1,11 +1,12 @@
 -- What the plain data means: arcs, a bound, and how the values stand.
-use Rattle.std.specs.Prelude.{ℕ, ◌+◌, ◌*◌, Bool, false, cond, ◌&&◌, ◌||◌, List, [], ◌∷◌, ◌==◌, count_ones, nat_lt, slice_index, slice_index_or}
+use Rattle.std.specs.Prelude.{ℕ, ◌+◌, ◌*◌, Bool, false, cond, ◌&&◌, ◌||◌, List, [], ◌∷◌, ◌==◌, count_ones, map, nat_lt, slice_index, slice_index_or}
 use Rattle.arcs.specs.Arcs.{Arcs}
 use Rattle.arcs.specs.Family.{Family, within_sizes}
 use Rattle.bits.specs.Bits.{has_bit, domains_of}
 use Rattle.justify.specs.Standing.{Standing, Reasons}
 use Rattle.domains.specs.declared.Constraints.{Constraints}
 use Rattle.domains.specs.declared.Domains.{Domains}
+use Rattle.domains.specs.declared.Justification.{Justification}
 
 -- the values below the sizes
 abbrev pub within : Constraints → Family
@@ -40,8 +41,15 @@ shown d = domains_of d.sets
 unfoldable pub entry : List ℕ → ℕ → ℕ → ℕ
 entry xs i x = cond (nat_lt x 64) (slice_index xs (64 * i + x)) 0
 
+-- the constraints that the justifications name, and their times
+abbrev pub reasons_of : List Justification → List ℕ
+reasons_of why = map (λ j. j.constraint) why
+
+abbrev pub times_of : List Justification → List ℕ
+times_of why = map (λ j. j.time) why
+
 abbrev pub standing : Domains → Standing
-standing d = record { shown = shown d; reason = entry d.why.reasons; time = entry d.why.times }
+standing d = record { shown = shown d; reason = entry (reasons_of d.why); time = entry (times_of d.why) }
 
 -- how many values are shown
 abbrev pub total : List ℕ → ℕ

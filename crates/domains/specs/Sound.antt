@@ -1,5 +1,5 @@
 -- When the plain data stands rightly, and how operations change it.
-use Rattle.std.specs.Prelude.{◌≡◌, ℕ, ◌+◌, ◌*◌, ◌^◌, ◌<◌, ◌≤◌, Bool, true, false, ◌⊎◌, List, length, ◌≢◌, slice_index, slice_index_or}
+use Rattle.std.specs.Prelude.{◌≡◌, ℕ, ◌+◌, ◌*◌, ◌<◌, ◌≤◌, Bool, true, false, ◌⊎◌, List, length, ◌≢◌, slice_index, slice_index_or}
 use Rattle.arcs.specs.Family.{Inside, Support}
 use Rattle.bits.specs.Bits.{has_bit}
 use Rattle.justify.specs.Standing.{Justified, Timed}
@@ -26,16 +26,8 @@ pub record Shape (c : Constraints) : Type 0 where
   pub apart : (p : ℕ) → is_present c p ≡ true → left_of c p ≢ right_of c p
   pub mirror : (p x y : ℕ) → p < 128 → x < 64 → y < 64 → has_bit (slice_index c.rows (128 * p + 64 + y)) x ≡ has_bit (slice_index c.rows (128 * p + x)) y
 
--- the arrays of the domains are as long as their types say, and each set has 64 bits
-pub record Sized (d : Domains) : Type 0 where
-  pub sets : length d.sets ≡ 32
-  pub reasons : length d.why.reasons ≡ 2048
-  pub times : length d.why.times ≡ 2048
-  pub wide : (i : ℕ) → slice_index d.sets i < 2 ^ 64
-
 -- the shown values lie inside the sizes, all others are justified, and times are apart and below the clock
 pub record Sound (c : Constraints) (d : Domains) : Type 0 where
-  pub sized : Sized d
   pub inside : Inside (within c) (shown d)
   pub justified : Justified (arcs_of c) (within c) (standing d)
   pub timed : Timed (within c) (standing d) d.clock

@@ -1,23 +1,21 @@
 // The plain data of the propagation engine: constraints with their rows of supports, and domains with their justifications.
 #![tactic(auto)]
 
+ghost use Rattle.std.specs.Prelude.{◌≡◌, ℕ, ◌^◌, ◌<◌, length, slice_index};
+
 mod make;
 
 pub use make::{capped, full, no_constraints, no_domains, transposed};
 
-// The justification of the value x of the variable i stands at 64 * i + x: a constraint and a time.
-#[derive(Drop)]
-pub struct Justifications {
-    pub reasons: [u8; 2048],
-    pub times: [u32; 2048],
-}
-
-// Bit x of `sets[i]` says whether the value x of the variable i is shown.
+// Bit x of `sets[i]` says whether the value x of the variable i is shown; its justification stands at 64 * i + x of `why`.
 #[derive(Drop)]
 pub struct Domains {
     pub sets: [u64; 32],
-    pub why: Justifications,
+    pub why: [Justification; 2048],
     pub clock: u32,
+    pub ghost sets_long: { length sets ≡ 32 },
+    pub ghost why_long: { length why ≡ 2048 },
+    pub ghost wide: { (i : ℕ) → slice_index sets i < 2 ^ 64 },
 }
 
 // The variables' sizes, and the constraints by their index: whether it is in, its two ends, and its rows of supports. Row 128 * p + x has

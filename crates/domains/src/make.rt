@@ -3,7 +3,7 @@ ghost use Rattle.std.specs.Prelude.{◌≡◌, ℕ, ◌^◌, ◌<◌, min, ◌&&
 ghost use Rattle.bits.specs.Bits.{domains_of, has_bit};
 ghost use Rattle.domains.specs.Make.{no_constraints, no_domains};
 
-use crate::{Constraints, Domains, Justifications};
+use crate::{Constraints, Domains, Justification};
 
 // No variables, and no constraint in.
 pub fn no_constraints() -> Constraints
@@ -22,13 +22,13 @@ pub fn no_constraints() -> Constraints
 pub fn no_domains() -> Domains
     ensures { result ≡ no_domains }
 {
-    let why = Justifications {
-        reasons: [0; 2048],
-        times: [0; 2048],
+    let none = Justification {
+        constraint: 0,
+        time: 0,
     };
     Domains {
         sets: [0; 32],
-        why,
+        why: [none; 2048],
         clock: 0,
     }
 }

@@ -1,10 +1,10 @@
 -- What the tests before a call give, and what a call leaves.
-use Rattle.std.proofs.Common.{◌≡◌, ℕ, ◌^◌, ◌<◌, ◌≤◌, min, Bool, true, false, cond, not, ◌&&◌, eqb, ltb, List, length, get_or, replicate, Some, None, Option, MatchOption, sym, refl, ap, ◌∙◌, subst, ⊎_elim, arith}
+use Rattle.std.proofs.Common.{◌≡◌, ℕ, ◌<◌, ◌≤◌, min, true, false, cond, not, ◌&&◌, eqb, ltb, List, length, get_or, Some, None, Option, MatchOption, sym, refl, ap, ◌∙◌, ⊎_elim, arith}
 use Rattle.std.proofs.lemmas.List.{get_or_past}
 use Rattle.std.proofs.lemmas.Bool.{and_from, and_parts, cases_lt, cond-true, eq-eqb, eqb-false, lt-ltb, ltb-false, ltb-true, not_from_false, not-true}
 use Rattle.arcs.specs.Family.{Inside}
 use Rattle.arcs.specs.WipedOut.{Shown, WipedOut}
-use Rattle.bits.specs.Bits.{bit_at, domains_of, has_bit}
+use Rattle.bits.specs.Bits.{bit_at, has_bit}
 use Rattle.bits.proofs.Bitwise.{bit_of_zero, some_bit}
 use Rattle.domains.specs.declared.Constraints.{Constraints}
 use Rattle.domains.specs.declared.Domains.{Domains}
@@ -13,7 +13,7 @@ use Rattle.domains.specs.Model.{is_present, left_of, right_of, shown, standing, 
 use Rattle.domains.specs.Stands.{Stands}
 use Rattle.domains.proofs.Entries.{total_inside}
 use Rattle.domains.proofs.Props.{stands_largest}
-use Rattle.domains.proofs.Setup.{all_shown, none_at, refilled, sizes_small, stands_open}
+use Rattle.domains.proofs.Setup.{all_shown, none_at, reopened, sizes_small, stands_open}
 use Rattle.engine.specs.Calls.{can_add, can_load, can_retract, justification_of, Opened, Right}
 
 pub record Addable (c : Constraints) (d : Domains) (p room : ℕ) : Type 0 where
@@ -60,29 +60,24 @@ right_now c d s = record { largest = stands_largest c d s; justified = s.sound.j
 -- where every value is shown that was, no fewer are
 pub more_shown : (c c' : Constraints) (d d' : Domains) → Stands c d → Stands c' d' → Inside (shown d') (shown d) → total d.sets ≤ total d'.sets
 more_shown c c' d d' s s' grew =
-    total_inside d.sets d'.sets (s.sound.sized.sets ∙ sym s'.sound.sized.sets) s.sound.sized.wide s'.sound.sized.wide grew
+    total_inside d.sets d'.sets (d.sets_long ∙ sym d'.sets_long) d.wide d'.wide grew
 
 -- an opening
-module _ (c : Constraints) (d : Domains) (given sizes sets : List ℕ) (marks : List Bool) (clock : ℕ) (stands : Stands c d) (none : marks ≡ replicate 128 false) (long : length sizes ≡ 32) (capped : (i : ℕ) → get_or sizes i 0 ≡ cond (ltb i 32) (min 64 (get_or given i 0)) 0) (wide : (i : ℕ) → get_or sets i 0 < 2 ^ 64) (many : length sets ≡ 32) (full : (i x : ℕ) → i < 32 → domains_of sets i x ≡ (ltb x (get_or sizes i 0) && ltb x 64)) where
-  abbrev pub afresh : Constraints
-  afresh = record { sizes = sizes; present = marks; left = c.left; right = c.right; rows = c.rows }
+module _ (c : Constraints) (d d' : Domains) (given sizes : List ℕ) (stands : Stands c d) (long : length sizes ≡ 32) (capped : (i : ℕ) → get_or sizes i 0 ≡ cond (ltb i 32) (min 64 (get_or given i 0)) 0) (full : (i x : ℕ) → i < 32 → shown d' i x ≡ (ltb x (get_or sizes i 0) && ltb x 64)) where
+  pub afresh_stands : Stands (reopened c sizes) d'
+  afresh_stands = stands_open c d d' sizes stands long (sizes_small sizes given capped) full
 
-  pub afresh_stands : Stands afresh (refilled d sets clock)
-  afresh_stands =
-      subst (λ m. Stands (record { sizes = sizes; present = m; left = c.left; right = c.right; rows = c.rows }) (refilled d sets clock)) (sym none)
-      (stands_open c d sizes sets clock stands long (sizes_small sizes given capped) wide many full)
-
-  pub afresh_opened : Opened c afresh (refilled d sets clock) given clock
+  pub afresh_opened : Opened c (reopened c sizes) d' given d'.clock
   afresh_opened =
       record {
         sizes = capped;
-        none = λ p. ap (λ m. get_or m p false) none ∙ none_at 128 p;
+        none = none_at 128;
         left = refl;
         right = refl;
         rows = refl;
-        all = all_shown c d sizes sets clock stands long (sizes_small sizes given capped) wide many full;
+        all = all_shown c d d' sizes stands long (sizes_small sizes given capped) full;
         clock = refl;
-        stands = right_now afresh (refilled d sets clock) afresh_stands;
+        stands = right_now (reopened c sizes) d' afresh_stands;
       }
 
 -- a constraint may be loaded
@@ -120,17 +115,17 @@ justified_by c d i x set j h e out is =
     ∙ sym (cond-true (within c i x && not (shown d i x)) _ None
     (and_from (within c i x) (not (shown d i x)) (lt-ltb x (get_or c.sizes i 0) h) (not_from_false (shown d i x) gone)))
 
-something_shown : (d : Domains) (i : ℕ) → get_or d.sets i 0 < 2 ^ 64 → (get_or d.sets i 0 ≡ 0 → ⊥) → Shown (shown d) i
-something_shown d i w nz =
-    let s : (x : ℕ) × (x < 64) × (bit_at (get_or d.sets i 0) x ≡ 1) = some_bit 64 (get_or d.sets i 0) w (omega arith) in
+something_shown : (d : Domains) (i : ℕ) → (get_or d.sets i 0 ≡ 0 → ⊥) → Shown (shown d) i
+something_shown d i nz =
+    let s : (x : ℕ) × (x < 64) × (bit_at (get_or d.sets i 0) x ≡ 1) = some_bit 64 (get_or d.sets i 0) (d.wide i) (omega arith) in
     (s.0, eq-eqb (bit_at (get_or d.sets i 0) s.0) 1 s.2)
 
 -- the first variable whose set is 0 is the wiped-out one
-pub wiped_by : (d : Domains) (n : ℕ) (r : Option ℕ) → ((i : ℕ) → get_or d.sets i 0 < 2 ^ 64) → MatchOption r ((k : ℕ) → 0 ≤ k → k < n → get_or d.sets k 0 ≡ 0 → ⊥) (λ i. (0 ≤ i) × (i < n) × (get_or d.sets i 0 ≡ 0) × ((k : ℕ) → 0 ≤ k → k < i → get_or d.sets k 0 ≡ 0 → ⊥)) → WipedOut (shown d) n r
-wiped_by d n None w h = λ j l. something_shown d j (w j) (h j (omega arith) l)
-wiped_by d n (Some i) w h =
+pub wiped_by : (d : Domains) (n : ℕ) (r : Option ℕ) → MatchOption r ((k : ℕ) → 0 ≤ k → k < n → get_or d.sets k 0 ≡ 0 → ⊥) (λ i. (0 ≤ i) × (i < n) × (get_or d.sets i 0 ≡ 0) × ((k : ℕ) → 0 ≤ k → k < i → get_or d.sets k 0 ≡ 0 → ⊥)) → WipedOut (shown d) n r
+wiped_by d n None h = λ j l. something_shown d j (h j (omega arith) l)
+wiped_by d n (Some i) h =
     record {
       below = h.1;
       empty = λ x. ap (λ s. has_bit s x) h.2 ∙ ap (λ b. eqb b 1) (bit_of_zero x);
-      before = λ j l. something_shown d j (w j) (h.3 j (omega arith) l);
+      before = λ j l. something_shown d j (h.3 j (omega arith) l);
     }

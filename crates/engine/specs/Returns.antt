@@ -9,12 +9,10 @@ use Rattle.domains.specs.declared.Constraints.{Constraints}
 use Rattle.domains.specs.declared.Domains.{Domains}
 use Rattle.domains.specs.declared.Returning.{Returning}
 use Rattle.domains.specs.Model.{within, arcs_of, shown, standing, total, reason_is}
-use Rattle.domains.specs.Sound.{Sized}
 use Rattle.domains.specs.Releasing.{Low, Releasing}
 
 -- there is room for every value that may yet come back
 pub record Roomy (c : Constraints) (d : Domains) (q : Queue Returning) : Type 0 where
-  pub sized : Sized d
   pub inside : Inside (within c) (shown d)
   pub limit : q.limit ≡ 2048
   pub few : q.len ≤ total d.sets

@@ -5,7 +5,7 @@ ghost use Rattle.justify.specs.Changes.{Released, Same};
 ghost use Rattle.justify.specs.Standing.{Out, Rests};
 ghost use Rattle.queue.specs.Waiting.{Kept};
 ghost use Rattle.domains.specs.Model.{arcs_of, left_of, reason_is, right_of, shown, standing, within};
-ghost use Rattle.domains.specs.Sound.{Arrays, Sized, Went};
+ghost use Rattle.domains.specs.Sound.{Arrays, Went};
 ghost use Rattle.domains.specs.Stands.{Past, Stands, with_present};
 ghost use Rattle.engine.specs.Queued.{Queued};
 
@@ -60,7 +60,6 @@ fn release_through(c: &Constraints, d: &mut Domains, returning: &mut [Returning]
     requires stands { Stands c.now d.old }
     requires room { 2048 ≤ length returning.old }
     ensures released { Released (arcs_of c.now) (within c.now) (reason_is constraint) (standing d.old) (standing d.new) }
-    ensures sized { Sized d.new }
     ensures inside { Inside (within c.now) (shown d.new) }
     ensures clock { d.new.clock ≡ d.old.clock }
     ensures past { Past 2048 returning.old returning.new }

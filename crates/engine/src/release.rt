@@ -4,9 +4,9 @@ ghost use Rattle.arcs.specs.Family.{Inside};
 ghost use Rattle.justify.specs.Changes.{PutBack, Released};
 ghost use Rattle.queue.specs.Waiting.{Kept, waits};
 ghost use Rattle.bits.specs.Bits.{has_bit};
-ghost use Rattle.domains.specs.Model.{arcs_of, entry, is_present, reason_is, shown, standing, total, within};
+ghost use Rattle.domains.specs.Model.{arcs_of, entry, is_present, reason_is, reasons_of, shown, standing, times_of, total, within};
 ghost use Rattle.domains.specs.Releasing.{Followed, Low, Releasing};
-ghost use Rattle.domains.specs.Sound.{Arrays, Facing, Shape, Sized, Sound};
+ghost use Rattle.domains.specs.Sound.{Arrays, Facing, Shape, Sound};
 ghost use Rattle.engine.specs.Returns.{FreesAmong, Grew, Roomy};
 
 use crate::revise::arc_at;
@@ -17,33 +17,30 @@ use queue::Queue;
 // Is the value out, with a justification that names the constraint?
 pub(crate) fn names(d: &Domains, variable: usize, value: usize, constraint: usize) -> bool
     requires low { (variable < 32) × (value < 64) }
-    requires sized { Sized d.now }
-    ensures { result ≡ (not (shown d.now variable value) && entry d.now.why.reasons variable value == constraint) }
+    ensures { result ≡ (not (shown d.now variable value) && entry (reasons_of d.now.why) variable value == constraint) }
 {
     if bits::has(d.sets[variable], value) {
         return false;
     }
-    d.why.reasons[64 * variable + value] as usize == constraint
+    d.why[64 * variable + value].constraint == constraint
 }
 
 // Puts the value back and lets it wait.
 pub(crate) fn free(d: &mut Domains, q: &mut Queue<'_, Returning>, variable: usize, value: usize)
     requires low { (variable < 32) × (value < 64) }
-    requires sized { Sized d.old }
     requires was { shown d.old variable value ≡ false }
     requires limit { q.old.limit ≡ 2048 }
     requires few { q.old.len ≤ total d.old.sets }
     ensures put { PutBack (standing d.old) (standing d.new) variable value }
-    ensures sized { Sized d.new }
     ensures clock { d.new.clock ≡ d.old.clock }
     ensures why { d.new.why ≡ d.old.why }
     ensures more { total d.new.sets ≡ total d.old.sets + 1 }
-    ensures waiting { waits q.new ≡ waits q.old ++ (record { variable = variable; value = value; time = entry d.old.why.times variable value } ∷ []) }
+    ensures waiting { waits q.new ≡ waits q.old ++ (record { variable = variable; value = value; time = entry (times_of d.old.why) variable value } ∷ []) }
     ensures len { q.new.len ≡ q.old.len + 1 }
     ensures kept { Kept q.old q.new }
 {
     put_back(d, variable, value);
-    let time = d.why.times[64 * variable + value];
+    let time = d.why[64 * variable + value].time;
     let _ = q.push(Returning {
         variable: variable as u8,
         value: value as u8,
@@ -66,7 +63,7 @@ pub(crate) fn free_among(
     ensures roomy { Roomy c.now d.new q.new }
     ensures grew { Grew d.old d.new q.old q.new }
     ensures frees { FreesAmong c.now d.old d.new (waits q.old) (waits q.new) variable constraint among }
-    ensures freed { (x : ℕ) → within c.now variable x ≡ true → has_bit among x ≡ true → entry d.new.why.reasons variable x ≡ constraint → shown d.new variable x ≡ true }
+    ensures freed { (x : ℕ) → within c.now variable x ≡ true → has_bit among x ≡ true → entry (reasons_of d.new.why) variable x ≡ constraint → shown d.new variable x ≡ true }
 {
     let size = c.sizes[variable] as usize;
     for x in 0..size {
@@ -113,7 +110,6 @@ pub(crate) fn release(
     requires limit { q.old.limit ≡ 2048 }
     requires empty { (waits q.old ≡ []) × (q.old.len ≡ 0) }
     ensures released { Released (arcs_of c.now) (within c.now) (reason_is constraint) (standing d.old) (standing d.new) }
-    ensures sized { Sized d.new }
     ensures inside { Inside (within c.now) (shown d.new) }
     ensures clock { d.new.clock ≡ d.old.clock }
     ensures more { total d.old.sets ≤ total d.new.sets }

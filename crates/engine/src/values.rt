@@ -2,35 +2,32 @@
 ghost use Rattle.std.specs.Prelude.{◌≡◌, ℕ, ◌+◌, ◌-◌, ◌^◌, ◌<◌, ◌≤◌, true, false, length, ◌≢◌, slice_index};
 ghost use Rattle.justify.specs.Changes.{PutOut, PutBack};
 ghost use Rattle.domains.specs.Model.{shown, standing, total};
-ghost use Rattle.domains.specs.Sound.{Sized};
 
-use domains::Domains;
+use domains::{Domains, Justification};
 
 // Puts the value out by the constraint, at the clock's time.
 pub(crate) fn put_out(d: &mut Domains, variable: usize, value: usize, constraint: usize)
     requires low { (variable < 32) × (value < 64) × (constraint < 128) }
-    requires sized { Sized d.old }
     requires time { d.old.clock + 1 < 2 ^ 32 }
     requires was { shown d.old variable value ≡ true }
     ensures put { PutOut (standing d.old) (standing d.new) variable value constraint d.old.clock }
-    ensures sized { Sized d.new }
     ensures clock { d.new.clock ≡ d.old.clock + 1 }
     ensures fewer { total d.new.sets + 1 ≡ total d.old.sets }
     ensures others { (j : ℕ) → (j ≢ variable) → slice_index d.new.sets j ≡ slice_index d.old.sets j }
 {
     d.sets[variable] ^= 1 << value;
-    d.why.reasons[64 * variable + value] = constraint as u8;
-    d.why.times[64 * variable + value] = d.clock;
+    d.why[64 * variable + value] = Justification {
+        constraint,
+        time: d.clock,
+    };
     d.clock += 1;
 }
 
 // Puts the value back.
 pub(crate) fn put_back(d: &mut Domains, variable: usize, value: usize)
     requires low { (variable < 32) × (value < 64) }
-    requires sized { Sized d.old }
     requires was { shown d.old variable value ≡ false }
     ensures put { PutBack (standing d.old) (standing d.new) variable value }
-    ensures sized { Sized d.new }
     ensures clock { d.new.clock ≡ d.old.clock }
     ensures why { d.new.why ≡ d.old.why }
     ensures more { total d.new.sets ≡ total d.old.sets + 1 }

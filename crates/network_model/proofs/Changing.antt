@@ -116,7 +116,7 @@ module _ (m : Meaning) (lawful : Lawful m) (s : State) (p : ℕ) (waiting : List
               (step_add m lawful c c₁ c' d d' s.variables s.known s'.known p ch.values (rooms_of waiting returning) ch.wiped linked
               (subst (λ w. Links m c' w s'.known) same after) learnt.sizes learnt.present
               (subst (λ w. p < w) (sym (stands_in s₁).shape.arrays.present) (omega (arith, (learnt.linked.means p learnt.known).is_one, lawful.few)))
-              (stands_in s').shape.arrays.sizes (stands_in s).sound.sized (stands_in s').sound.sized
+              (stands_in s').shape.arrays.sizes
               (subst (λ w. WipedOut (shown d') w ch.wiped) learnt.variables did.1)
               (refusal-adds ∙ sym none) (subst A learnt.domains did.0));
         }
@@ -142,6 +142,6 @@ module _ (m : Meaning) (lawful : Lawful m) (s : State) (p : ℕ) (waiting : List
               (step_retract m lawful c c c' d d' s.variables s.known s'.known p ch.values (rooms_of waiting returning) ch.wiped linked
               (subst (λ w. Links m c' w s'.known) v after) refl refl
               (subst (λ w. p < w) (sym (stands_in s).shape.arrays.present) (omega (arith, (linked.means p known).is_one, lawful.few)))
-              (stands_in s').shape.arrays.sizes (stands_in s).sound.sized (stands_in s').sound.sized did.1
+              (stands_in s').shape.arrays.sizes did.1
               (sym none) refl (stands_in s).sound.justified did.0);
         }

@@ -12,7 +12,6 @@ use Rattle.refusal.specs.declared.Refusal.{Refusal}
 use Rattle.domains.specs.declared.Constraints.{Constraints}
 use Rattle.domains.specs.declared.Domains.{Domains}
 use Rattle.domains.specs.Model.{within, is_present, shown, standing, reason_is, arcs_of as arcs_in}
-use Rattle.domains.specs.Sound.{Sized}
 use Rattle.domains.specs.Stands.{with_present}
 use Rattle.engine.specs.Calls.{Right as RightIn, Added, Retracted}
 use Rattle.network_law.specs.declared.Answer.{Answer}
@@ -93,7 +92,7 @@ module _ (m : Meaning) (lawful : Lawful m) (c : Constraints) (d : Domains) (n : 
 
 module _ (m : Meaning) (lawful : Lawful m) (c c₁ c' : Constraints) (d d' : Domains) (n : ℕ) (known known' : List Bool) (p k : ℕ) (rooms : Rooms) (o : Option ℕ)
     (links : Links m c n known) (links' : Links m c' n known') (same_sizes : c₁.sizes ≡ c.sizes) (same_present : c₁.present ≡ c.present) (low : p < length c₁.present)
-    (long : length c'.sizes ≡ 32) (sized : Sized d) (sized' : Sized d') (wiped : WipedOut (shown d') n o) where
+    (long : length c'.sizes ≡ 32) (wiped : WipedOut (shown d') n o) where
   book_set : (b : Bool) → c' ≡ with_present c₁ p b → Agrees (moment c' d' n).book (record { sizes = take n c.sizes; present = λ q. cond (eqb q p) b (is_present c q) })
   book_set b e =
       record {
@@ -117,7 +116,7 @@ module _ (m : Meaning) (lawful : Lawful m) (c c₁ c' : Constraints) (d d' : Dom
                 record { values = k; wiped = o },
                 refl,
                 record {
-                  count = count_is_less d.sets d'.sets k sized.sets sized'.sets sized.wide sized'.wide added.went.fewer (omega (arith, added.went.spent, added.count));
+                  count = count_is_less d.sets d'.sets k d.sets_long d'.sets_long d.wide d'.wide added.went.fewer (omega (arith, added.went.spent, added.count));
                   wiped = wiped_here m lawful c' d' n known' links' long o wiped;
                   clock = added.count;
                 },
@@ -139,7 +138,7 @@ module _ (m : Meaning) (lawful : Lawful m) (c c₁ c' : Constraints) (d d' : Dom
                 record { values = k; wiped = o },
                 refl,
                 record {
-                  count = count_is_less d'.sets d.sets k sized'.sets sized.sets sized'.wide sized.wide gone.grew gone.count;
+                  count = count_is_less d'.sets d.sets k d'.sets_long d.sets_long d'.wide d.wide gone.grew gone.count;
                   wiped = wiped_here m lawful c' d' n known' links' long o wiped;
                   later = gone.later;
                   soon = gone.soon;

@@ -1,7 +1,6 @@
 ghost use Rattle.std.specs.Prelude.{◌≡◌, ℕ, ◌<◌, false, slice_index};
 ghost use Rattle.arcs.specs.WipedOut.{WipedOut};
-ghost use Rattle.domains.specs.Model.{entry, is_present, shown};
-ghost use Rattle.domains.specs.Sound.{Sized};
+ghost use Rattle.domains.specs.Model.{entry, is_present, reasons_of, shown, times_of};
 ghost use Rattle.engine.specs.Calls.{justification_of};
 
 use super::Engine;
@@ -10,13 +9,9 @@ use domains::{Domains, Justification};
 // What stands of the value.
 fn read(d: &Domains, variable: usize, value: usize) -> Justification
     requires low { (variable < 32) × (value < 64) }
-    requires sized { Sized d.now }
-    ensures { result ≡ record { constraint = entry d.now.why.reasons variable value; time = entry d.now.why.times variable value } }
+    ensures { result ≡ record { constraint = entry (reasons_of d.now.why) variable value; time = entry (times_of d.now.why) variable value } }
 {
-    Justification {
-        constraint: d.why.reasons[64 * variable + value] as usize,
-        time: d.why.times[64 * variable + value],
-    }
+    d.why[64 * variable + value]
 }
 
 impl Engine {

@@ -1,6 +1,6 @@
 ghost use Rattle.std.specs.Prelude.{◌≡◌, ℕ, ◌+◌, ◌<◌, ◌≤◌, true, false, length, is_some, MatchOption};
 ghost use Rattle.domains.specs.Model.{total};
-ghost use Rattle.domains.specs.Sound.{Arrays, Sized};
+ghost use Rattle.domains.specs.Sound.{Arrays};
 ghost use Rattle.domains.specs.Stands.{Past, Stands};
 ghost use Rattle.engine.specs.Calls.{Added, Retracted, can_add, can_retract};
 
@@ -45,7 +45,6 @@ fn can_retract(
 
 // How many values are shown.
 fn count(d: &Domains) -> u32
-    requires { Sized d.now }
     ensures { result ≡ total d.now.sets }
 {
     let mut n = 0;

@@ -23,7 +23,7 @@ propagate-requires c =
     record {
       shape = shape_in n d p c.requires.low c.requires.stands c.requires.apart;
       sound = sound_in n d p c.requires.low c.requires.stands;
-      time = time_left d c.requires.stands.sound.sized c.requires.time;
+      time = time_left d c.requires.time;
       queued = c.enqueue.ensures.queued;
       settled = settled_in n d p c.requires.low c.requires.stands c.enqueue.new.marks here;
     }

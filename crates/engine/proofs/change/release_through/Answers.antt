@@ -6,7 +6,6 @@ pub returns : goal.returns
 returns c =
     record {
       released = c.release.ensures.released;
-      sized = c.release.ensures.sized;
       inside = c.release.ensures.inside;
       clock = c.release.ensures.clock;
       past =

@@ -21,8 +21,8 @@ propagate-requires c =
     let p = c.args.constraint in
     record {
       shape = shape_out n d d' p c.requires.low c.requires.stands;
-      sound = sound_out n d d' p c.requires.low c.requires.stands c.release_through.ensures.released c.release_through.ensures.clock c.release_through.ensures.sized c.release_through.ensures.inside;
-      time = time_left d' c.release_through.ensures.sized (omega (arith, c.release_through.ensures.clock, c.requires.time));
+      sound = sound_out n d d' p c.requires.low c.requires.stands c.release_through.ensures.released c.release_through.ensures.clock c.release_through.ensures.inside;
+      time = time_left d' (omega (arith, c.release_through.ensures.clock, c.requires.time));
       queued = c.enqueue_changed.ensures.queued;
       settled = settled_out n d d' p c.requires.low c.requires.stands c.release_through.ensures.released c.release_through.ensures.clock c.enqueue_changed.new.marks c.enqueue_changed.ensures.waits;
     }
@@ -34,7 +34,7 @@ returns c =
     let d' = c.release_through.new.d in
     let d'' = c.propagate.new.d in
     let p = c.args.constraint in
-    let few : total d'.sets ≤ 64 * length d'.sets = total_few d'.sets c.release_through.ensures.sized.wide in
+    let few : total d'.sets ≤ 64 * length d'.sets = total_few d'.sets d'.wide in
     let stands : Stands (with_present n p _) d'' =
     record {
       shape = shape_out n d d' p c.requires.low c.requires.stands;
@@ -49,7 +49,7 @@ returns c =
       grew = grew_out n d d' p c.requires.low c.requires.stands c.release_through.ensures.released c.release_through.ensures.clock d'' stands;
       clock = (
         omega (arith, c.release_through.ensures.clock, c.propagate.ensures.went.later),
-        omega (arith, few, c.release_through.ensures.sized.sets, c.release_through.ensures.clock, c.propagate.ensures.went.spent),
+        omega (arith, few, d'.sets_long, c.release_through.ensures.clock, c.propagate.ensures.went.spent),
       );
       past = search rules;
       past_returning = c.release_through.ensures.past;

@@ -1,9 +1,9 @@
-use Rattle.std.proofs.Common.{◌≡◌, ℕ, ◌+◌, ◌*◌, true, [], ◌∷◌, ◌++◌, get_or, sym, ap, ◌∙◌}
+use Rattle.std.proofs.Common.{◌≡◌, ℕ, ◌<◌, ◌+◌, ◌*◌, true, List, [], ◌∷◌, ◌++◌, length, get_or, sym, ap, ◌∙◌, arith}
 use Rattle.std.proofs.lemmas.Bool.{cond-true, lt-ltb}
 use Rattle.queue.specs.Waiting.{waits}
-use Rattle.domains.specs.declared.Justifications.{Justifications}
-use Rattle.domains.specs.Model.{entry}
-use Rattle.domains.proofs.Entries.{entry_read}
+use Rattle.domains.specs.declared.Justification.{Justification}
+use Rattle.domains.specs.Model.{entry, times_of}
+use Rattle.domains.proofs.Entries.{time_read}
 use Rattle.engine.proofs.Frees.{some_room}
 use Rattle.engine.proofs.release.free.Goals as goal
 
@@ -16,14 +16,14 @@ returns c =
     let x = c.args.value in
     let fits : c.push.result ≡ true =
     c.push.ensures.fits
-    ∙ lt-ltb q.len q.limit (some_room d d' q.len q.limit c.put_back.ensures.sized c.requires.limit c.requires.few c.put_back.ensures.more)
+    ∙ lt-ltb q.len q.limit (some_room d d' q.len q.limit c.requires.limit c.requires.few c.put_back.ensures.more)
     in
-    let time : get_or d'.why.times (64 * i + x) 0 ≡ entry d.why.times i x =
-    ap (λ (j : Justifications). get_or j.times (64 * i + x) 0) c.put_back.ensures.why ∙ sym (entry_read d.why.times i x c.requires.low.1)
+    let here : 64 * i + x < length d'.why = omega (arith, c.requires.low, d'.why_long) in
+    let time : (get_or d'.why (64 * i + x) (record { constraint = 0; time = 0 })).time ≡ entry (times_of d.why) i x =
+    sym (time_read d'.why i x c.requires.low.1 here) ∙ ap (λ (j : List Justification). entry (times_of j) i x) c.put_back.ensures.why
     in
     record {
       put = c.put_back.ensures.put;
-      sized = c.put_back.ensures.sized;
       clock = c.put_back.ensures.clock;
       why = c.put_back.ensures.why;
       more = c.put_back.ensures.more;

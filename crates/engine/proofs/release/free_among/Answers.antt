@@ -8,14 +8,13 @@ use Rattle.engine.proofs.release.free_among.Goals as goal
 use Rattle.engine.proofs.release.free_among.Goals.{then-has+then-names, then-has+else-names, else-has}
 
 pub names-requires : goal.names-requires
-names-requires c = record { low = (c.requires.low, omega (arith, c.requires.shape.small c.args.variable)); sized = c.loop-x.invariant.roomy.sized }
+names-requires c = record { low = (c.requires.low, omega (arith, c.requires.shape.small c.args.variable)) }
 
 pub free-requires : goal.free-requires
 free-requires c =
     let yes = names_yes _ _ _ c.if-names.ensures in
     record {
       low = (c.requires.low, omega (arith, c.requires.shape.small c.args.variable));
-      sized = c.loop-x.invariant.roomy.sized;
       was = yes.0;
       limit = c.loop-x.invariant.roomy.limit;
       few = c.loop-x.invariant.roomy.few;
@@ -35,7 +34,7 @@ loop-x-preserved c =
       | then-has+then-names w ↦
           subst₂ P (sym w.d-is) (sym w.q-is)
           (among_free n d c.loop-x.d w.free.new.d q c.loop-x.q w.free.new.q i p s x _
-          w.free.ensures.put w.free.ensures.sized w.free.ensures.why w.free.ensures.more w.free.ensures.waiting w.free.ensures.len w.free.ensures.kept
+          w.free.ensures.put w.free.ensures.why w.free.ensures.more w.free.ensures.waiting w.free.ensures.len w.free.ensures.kept
           c.requires.low (omega (arith, c.requires.shape.small i)) (lt-ltb x _ c.loop-x-test.true) (sym w.if-has.ensures)
           (names_yes _ _ _ w.if-names.ensures).0 (names_yes _ _ _ w.if-names.ensures).1 w.free.ensures.clock c.loop-x.invariant)
       | then-has+else-names w ↦

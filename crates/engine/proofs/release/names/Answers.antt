@@ -1,7 +1,9 @@
-use Rattle.domains.proofs.Entries.{entry_read}
+use Rattle.std.proofs.Common.{arith}
+use Rattle.domains.proofs.Entries.{reason_read}
 use Rattle.engine.proofs.Frees.{names_out}
 use Rattle.engine.proofs.release.names.Goals as goal
 
 pub returns : goal.returns
 returns c =
-    names_out _ _ _ c.args.constraint c.if-has.ensures (entry_read c.args.d.now.why.reasons c.args.variable c.args.value c.requires.low.1)
+    names_out _ _ _ c.args.constraint c.if-has.ensures
+    (reason_read c.args.d.now.why c.args.variable c.args.value c.requires.low.1 (omega (arith, c.requires.low, c.args.d.now.why_long)))

@@ -13,9 +13,9 @@ use Rattle.engine.proofs.release.release.Goals as goal
 pub loop-returning-smaller : goal.loop-returning-smaller
 loop-returning-smaller c =
     let few : total c.free_beside.new.d.sets ≤ 64 * length c.free_beside.new.d.sets =
-    total_few c.free_beside.new.d.sets c.free_beside.ensures.roomy.sized.wide
+    total_few c.free_beside.new.d.sets c.free_beside.new.d.wide
     in
-    omega (arith, few, c.free_beside.ensures.roomy.sized.sets, c.free_beside.ensures.grew.even, c.free_beside.ensures.grew.more, c.in-Some.ensures.len)
+    omega (arith, few, c.free_beside.new.d.sets_long, c.free_beside.ensures.grew.even, c.free_beside.ensures.grew.more, c.in-Some.ensures.len)
 
 pub loop-returning-preserved : goal.loop-returning-preserved
 loop-returning-preserved c =
@@ -50,7 +50,6 @@ returns c =
           released n p d d₃ r₃
           (named_both n p all d d₁ d₂ d₃ c.requires.shape c.requires.sound c.free_among.ensures.grew.why c.free_among-2.ensures.grew.why
           c.free_among-2.ensures.grew.shown c.loop-returning.invariant.2 c.below-all.ensures c.free_among.ensures.freed c.free_among-2.ensures.freed);
-      sized = c.loop-returning.invariant.0.sized;
       inside = c.loop-returning.invariant.0.inside;
       clock = c.loop-returning.invariant.1 ∙ c.free_among-2.ensures.grew.clock ∙ c.free_among.ensures.grew.clock;
       more = omega (arith, c.loop-returning.invariant.3, c.free_among.ensures.grew.more, c.free_among-2.ensures.grew.more);

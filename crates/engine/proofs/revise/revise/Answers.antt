@@ -10,10 +10,9 @@ use Rattle.engine.proofs.revise.revise.Goals.{then-has+then-supports-c-eq0, then
 pub put_out-requires : goal.put_out-requires
 put_out-requires c =
     let was : shown c.loop-x.d c.args.arc.near c.loop-x.x ≡ true = sym c.if-has.ensures in
-    let some = total_positive c.loop-x.d c.args.arc.near c.loop-x.x c.requires.facing.near_low c.loop-x-test.true c.loop-x.invariant.sound.sized was in
+    let some = total_positive c.loop-x.d c.args.arc.near c.loop-x.x c.requires.facing.near_low c.loop-x-test.true was in
     record {
       low = (c.requires.facing.near_low, c.loop-x-test.true, c.requires.facing.constraint_low);
-      sized = c.loop-x.invariant.sound.sized;
       time = omega (arith, some, c.loop-x.invariant.went.spent, c.requires.time);
       was = was;
     }
@@ -29,12 +28,12 @@ loop-x-preserved c =
       | then-has+then-supports-c-eq0 w ↦
           subst P (sym w.d-is)
           (revising_out n d c.loop-x.d w.put_out.new.d a x c.requires.facing c.loop-x.invariant w.put_out.ensures.put
-          (support_no n d a c.requires.facing c.requires.sound.sized x c.loop-x-test.true w.if-supports-c-eq0.true)
-          w.put_out.ensures.sized w.put_out.ensures.clock w.put_out.ensures.fewer w.put_out.ensures.others)
+          (support_no n d a c.requires.facing x c.loop-x-test.true w.if-supports-c-eq0.true)
+          w.put_out.ensures.clock w.put_out.ensures.fewer w.put_out.ensures.others)
       | then-has+else-supports-c-eq0 w ↦
           subst P (sym w.d-is)
           (revising_keep n d c.loop-x.d a x
-          (λ _. support_yes n d a c.requires.facing c.requires.sound.sized x c.loop-x-test.true (omega (arith, w.if-supports-c-eq0.false)))
+          (λ _. support_yes n d a c.requires.facing x c.loop-x-test.true (omega (arith, w.if-supports-c-eq0.false)))
           c.loop-x.invariant)
       | else-has w ↦
           subst P (sym w.d-is)

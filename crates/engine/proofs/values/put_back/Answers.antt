@@ -1,5 +1,5 @@
 use Rattle.std.proofs.Common.{refl}
-use Rattle.domains.proofs.Values.{put_back, back_sized, back_total, sets_others}
+use Rattle.domains.proofs.Values.{put_back, back_total, sets_others, with_value}
 use Rattle.engine.proofs.values.put_back.Goals as goal
 
 pub returns : goal.returns
@@ -8,10 +8,17 @@ returns c =
     let i = c.args.variable in
     let x = c.args.value in
     record {
-      put = put_back d i x c.requires.low.0 c.requires.low.1 c.requires.sized c.requires.was;
-      sized = back_sized d i x c.requires.low.0 c.requires.low.1 c.requires.sized;
+      put = put_back d i x c.requires.low.0 c.requires.low.1 c.requires.was;
       clock = refl;
       why = refl;
-      more = back_total d i x c.requires.low.0 c.requires.low.1 c.requires.sized c.requires.was;
-      others = sets_others d i x c.requires.low.0 c.requires.low.1 c.requires.sized _;
+      more = back_total d i x c.requires.low.0 c.requires.low.1 c.requires.was;
+      others = sets_others d i x c.requires.low.0 c.requires.low.1 _;
     }
+
+pub invariant_of-d : goal.invariant_of-d
+invariant_of-d c =
+    let d = c.args.d.now in
+    let i = c.args.variable in
+    let x = c.args.value in
+    let e = with_value d i x c.requires.low.0 c.requires.low.1 in
+    record { sets_long = e.sets_long; why_long = e.why_long; wide = e.wide }

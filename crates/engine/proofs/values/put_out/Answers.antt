@@ -1,5 +1,5 @@
 use Rattle.std.proofs.Common.{refl}
-use Rattle.domains.proofs.Values.{put_out, out_sized, out_total, sets_others}
+use Rattle.domains.proofs.Values.{put_out, out_total, sets_others, without}
 use Rattle.engine.proofs.values.put_out.Goals as goal
 
 pub returns : goal.returns
@@ -8,9 +8,16 @@ returns c =
     let i = c.args.variable in
     let x = c.args.value in
     record {
-      put = put_out d i x c.requires.low.0 c.requires.low.1 c.requires.sized c.args.constraint c.requires.was;
-      sized = out_sized d i x c.requires.low.0 c.requires.low.1 c.requires.sized c.args.constraint;
+      put = put_out d i x c.requires.low.0 c.requires.low.1 c.args.constraint c.requires.was;
       clock = refl;
-      fewer = out_total d i x c.requires.low.0 c.requires.low.1 c.requires.sized c.args.constraint c.requires.was;
-      others = sets_others d i x c.requires.low.0 c.requires.low.1 c.requires.sized _;
+      fewer = out_total d i x c.requires.low.0 c.requires.low.1 c.args.constraint c.requires.was;
+      others = sets_others d i x c.requires.low.0 c.requires.low.1 _;
     }
+
+pub invariant_of-d : goal.invariant_of-d
+invariant_of-d c =
+    let d = c.args.d.now in
+    let i = c.args.variable in
+    let x = c.args.value in
+    let e = without d i x c.requires.low.0 c.requires.low.1 c.args.constraint in
+    record { sets_long = e.sets_long; why_long = e.why_long; wide = e.wide }

@@ -9,7 +9,6 @@ read-requires c =
     let h : c.args.value < get_or c.args.self.now.constraints.sizes c.args.variable 0 = omega (arith, c.if-value-size.false, c.size.ensures) in
     record {
       low = (asked_low c.args.self.now.constraints c.args.self.now.domains c.args.variable c.args.value s h, omega (arith, h, s.shape.small c.args.variable));
-      sized = s.sound.sized;
     }
 
 pub returns : goal.returns

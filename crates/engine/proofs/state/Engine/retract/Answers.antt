@@ -15,9 +15,6 @@ returns-then-not-can_retract c =
       past_returning = record { long = refl; rest = refl };
     }
 
-pub count-before-requires : goal.count-before-requires
-count-before-requires c = (stands_out c.args.self.now.constraints c.args.self.now.domains c.args.self.now.stands).sound.sized
-
 pub take_out-requires : goal.take_out-requires
 take_out-requires c =
     let a =
@@ -31,9 +28,6 @@ take_out-requires c =
       room = a.wide;
       returns = a.returns;
     }
-
-pub count-requires : goal.count-requires
-count-requires c = c.take_out.ensures.stands.sound.sized
 
 pub overflow_sub-result : goal.overflow_sub-result
 overflow_sub-result c = omega (

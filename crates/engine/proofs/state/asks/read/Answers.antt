@@ -1,6 +1,6 @@
-use Rattle.std.proofs.Common.{ℕ, ◌+◌, ◌*◌, get_or, sym, ap, ◌∙◌}
-use Rattle.domains.specs.Model.{entry}
-use Rattle.domains.proofs.Entries.{entry_read}
+use Rattle.std.proofs.Common.{ℕ, ◌<◌, ◌+◌, ◌*◌, length, get_or, sym, ap, ◌∙◌, arith}
+use Rattle.domains.specs.Model.{entry, reasons_of}
+use Rattle.domains.proofs.Entries.{reason_read, time_read}
 use Rattle.engine.proofs.state.asks.read.Goals as goal
 
 pub returns : goal.returns
@@ -8,5 +8,6 @@ returns c =
     let i = c.args.variable in
     let x = c.args.value in
     let w = c.args.d.now.why in
-    ap (λ (n : ℕ). record { constraint = n; time = get_or w.times (64 * i + x) 0 }) (sym (entry_read w.reasons i x c.requires.low.1))
-    ∙ ap (λ (n : ℕ). record { constraint = entry w.reasons i x; time = n }) (sym (entry_read w.times i x c.requires.low.1))
+    let low : 64 * i + x < length w = omega (arith, c.requires, c.args.d.now.why_long) in
+    ap (λ (n : ℕ). record { constraint = n; time = (get_or w (64 * i + x) (record { constraint = 0; time = 0 })).time }) (sym (reason_read w i x c.requires.low.1 low))
+    ∙ ap (λ (n : ℕ). record { constraint = entry (reasons_of w) i x; time = n }) (sym (time_read w i x c.requires.low.1 low))
