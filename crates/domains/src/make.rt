@@ -34,6 +34,7 @@ pub fn no_domains() -> Domains
 }
 
 // The first 32 sizes, each at most 64, and 0 where there are fewer.
+// No `array::from_fn`: it was tried, and its contract does not say that the captured slice is the same at each call.
 pub fn capped(sizes: &[u8]) -> [u8; 32]
     ensures long { length result ≡ 32 }
     ensures sizes { (i : ℕ) → slice_index result i ≡ (if nat_lt i 32 then min 64 (slice_index sizes.now i) else 0) }

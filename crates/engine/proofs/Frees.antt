@@ -1,10 +1,11 @@
 -- Values come back through their queue.
-use Rattle.std.proofs.Common.{◌≡◌, ℕ, ◌+◌, ◌*◌, ◌<◌, ◌≤◌, Bool, true, false, not, ◌&&◌, eqb, List, [], ◌∷◌, ◌++◌, length, drop, sym, refl, ap, ◌∙◌, subst, ⊎_elim, arith, below_more}
+use Rattle.std.proofs.Common.{◌≡◌, ℕ, ◌+◌, ◌*◌, ◌<◌, ◌≤◌, Bool, true, false, not, ◌&&◌, eqb, List, [], ◌∷◌, ◌++◌, length, sym, refl, ap, ◌∙◌, subst, ⊎_elim, arith, below_more}
 use Rattle.std.proofs.lemmas.List.{append_assoc}
 use Rattle.std.proofs.lemmas.Bool.{cases_Bool, both_ways, and_parts, not-true, eqb-true, eq-eqb, and_from, not_from_false}
 use Rattle.bits.specs.Bits.{has_bit}
 use Rattle.justify.specs.Standing.{Out, Rests}
 use Rattle.justify.specs.Changes.{PutBack}
+use Rattle.engine.proofs.Kept.{kept_refl, kept_trans}
 use Rattle.queue.specs.declared.fifo.Queue.{Queue}
 use Rattle.queue.specs.Waiting.{waits, Kept}
 use Rattle.domains.specs.declared.Constraints.{Constraints}
@@ -36,18 +37,6 @@ pub some_room : (d d' : Domains) (n limit : ℕ) → limit ≡ 2048 → n ≤ to
 some_room d d' n limit e few more =
     let t : total d'.sets ≤ 64 * length d'.sets = total_few d'.sets d'.wide in
     omega (arith, t, d'.sets_long)
-
-pub kept_refl : (q : Queue Returning) → Kept q q
-kept_refl q = record { same = refl; limit = refl; long = refl; rest = refl }
-
-pub kept_trans : (q q' q'' : Queue Returning) → Kept q q' → Kept q' q'' → Kept q q''
-kept_trans q q' q'' a b =
-    record {
-      same = b.same ∙ a.same;
-      limit = b.limit ∙ a.limit;
-      long = b.long ∙ a.long;
-      rest = ap (λ n. drop n q''.room.now) (sym a.limit) ∙ b.rest ∙ ap (λ n. drop n q'.room.now) a.limit ∙ a.rest;
-    }
 
 pub grew_refl : (d : Domains) (q : Queue Returning) → Grew d d q q
 grew_refl d q =

@@ -1,5 +1,5 @@
 -- Marks and the queue of constraints: one more waits, one goes, none is left.
-use Rattle.std.proofs.Common.{◌≡◌, ℕ, zero, suc, ◌+◌, ◌<◌, ◌≤◌, Bool, true, false, cond, eqb, ltb, List, [], ◌∷◌, ◌++◌, length, get_or, drop, set, sym, refl, ap, ◌∙◌, ⊎_elim, arith}
+use Rattle.std.proofs.Common.{◌≡◌, ℕ, zero, suc, ◌+◌, ◌<◌, ◌≤◌, Bool, true, false, cond, eqb, ltb, List, [], ◌∷◌, ◌++◌, length, get_or, set, sym, refl, ap, ◌∙◌, ⊎_elim, arith}
 use Rattle.std.proofs.lemmas.List.{get_or-set_same, get_or-set_other, get_or_past, length-set, set-get_or}
 use Rattle.std.proofs.lemmas.Bool.{cases_eq, cases_lt, cases_Bool, both_ways, eq-eqb, ne_eqb, lt-ltb, cond-true}
 use Rattle.queue.specs.declared.fifo.Queue.{Queue}
@@ -118,15 +118,3 @@ queued_empty q marks queued e p =
     ⊎_elim
     (λ t. absurd (omega (arith, queued.once p, ap (λ l. often l p) e, number_true (get_or marks p false) t)))
     (λ f. f) (cases_Bool (get_or marks p false))
-
-pub kept_refl : (q : Queue ℕ) → Kept q q
-kept_refl q = record { same = refl; limit = refl; long = refl; rest = refl }
-
-pub kept_trans : (q q' q'' : Queue ℕ) → Kept q q' → Kept q' q'' → Kept q q''
-kept_trans q q' q'' a b =
-    record {
-      same = b.same ∙ a.same;
-      limit = b.limit ∙ a.limit;
-      long = b.long ∙ a.long;
-      rest = ap (λ n. drop n q''.room.now) (sym a.limit) ∙ b.rest ∙ ap (λ n. drop n q'.room.now) a.limit ∙ a.rest;
-    }

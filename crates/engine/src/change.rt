@@ -85,7 +85,8 @@ pub(crate) fn take_out(
     ensures stands { Stands c.new d.new }
     ensures kept { (i x : ℕ) → Out (within c.old) (standing d.old) i x → (Rests (arcs_of c.old) (within c.old) (standing d.old) (reason_is constraint) i x → ⊥) → Same (standing d.old) (standing d.new) i x }
     ensures grew { Inside (shown d.new) (shown d.old) }
-    ensures clock { (d.old.clock ≤ d.new.clock) × (d.new.clock ≤ d.old.clock + 2048) }
+    ensures later { d.old.clock ≤ d.new.clock }
+    ensures soon { d.new.clock ≤ d.old.clock + 2048 }
     ensures past { Past 128 waiting.old waiting.new }
     ensures past_returning { Past 2048 returning.old returning.new }
 {

@@ -16,7 +16,8 @@ use queue::Queue;
 
 // Is the value out, with a justification that names the constraint?
 pub(crate) fn names(d: &Domains, variable: usize, value: usize, constraint: usize) -> bool
-    requires low { (variable < 32) × (value < 64) }
+    requires variable { variable < 32 }
+    requires value { value < 64 }
     ensures { result ≡ (not (shown d.now variable value) && entry (reasons_of d.now.why) variable value == constraint) }
 {
     if bits::has(d.sets[variable], value) {
@@ -27,7 +28,8 @@ pub(crate) fn names(d: &Domains, variable: usize, value: usize, constraint: usiz
 
 // Puts the value back and lets it wait.
 pub(crate) fn free(d: &mut Domains, q: &mut Queue<'_, Returning>, variable: usize, value: usize)
-    requires low { (variable < 32) × (value < 64) }
+    requires variable { variable < 32 }
+    requires value { value < 64 }
     requires was { shown d.old variable value ≡ false }
     requires limit { q.old.limit ≡ 2048 }
     requires few { q.old.len ≤ total d.old.sets }
@@ -82,7 +84,8 @@ pub(crate) fn free_beside(
     q: &mut Queue<'_, Returning>,
     returning: Returning,
 )
-    requires low { (returning.variable < 32) × (returning.value < 64) }
+    requires variable { returning.variable < 32 }
+    requires value { returning.value < 64 }
     requires shape { Shape c.now }
     requires roomy { Roomy c.now d.old q.old }
     ensures roomy { Roomy c.now d.new q.new }
@@ -108,7 +111,8 @@ pub(crate) fn release(
     requires shape { Shape c.now }
     requires sound { Sound c.now d.old }
     requires limit { q.old.limit ≡ 2048 }
-    requires empty { (waits q.old ≡ []) × (q.old.len ≡ 0) }
+    requires empty { waits q.old ≡ [] }
+    requires len { q.old.len ≡ 0 }
     ensures released { Released (arcs_of c.now) (within c.now) (reason_is constraint) (standing d.old) (standing d.new) }
     ensures inside { Inside (within c.now) (shown d.new) }
     ensures clock { d.new.clock ≡ d.old.clock }

@@ -7,7 +7,9 @@ use domains::{Domains, Justification};
 
 // Puts the value out by the constraint, at the clock's time.
 pub(crate) fn put_out(d: &mut Domains, variable: usize, value: usize, constraint: usize)
-    requires low { (variable < 32) × (value < 64) × (constraint < 128) }
+    requires variable { variable < 32 }
+    requires value { value < 64 }
+    requires constraint { constraint < 128 }
     requires time { d.old.clock + 1 < 2 ^ 32 }
     requires was { shown d.old variable value ≡ true }
     ensures put { PutOut (standing d.old) (standing d.new) variable value constraint d.old.clock }
@@ -25,7 +27,8 @@ pub(crate) fn put_out(d: &mut Domains, variable: usize, value: usize, constraint
 
 // Puts the value back.
 pub(crate) fn put_back(d: &mut Domains, variable: usize, value: usize)
-    requires low { (variable < 32) × (value < 64) }
+    requires variable { variable < 32 }
+    requires value { value < 64 }
     requires was { shown d.old variable value ≡ false }
     ensures put { PutBack (standing d.old) (standing d.new) variable value }
     ensures clock { d.new.clock ≡ d.old.clock }

@@ -8,7 +8,8 @@ use domains::{Domains, Justification};
 
 // What stands of the value.
 fn read(d: &Domains, variable: usize, value: usize) -> Justification
-    requires low { (variable < 32) × (value < 64) }
+    requires variable { variable < 32 }
+    requires value { value < 64 }
     ensures { result ≡ record { constraint = entry (reasons_of d.now.why) variable value; time = entry (times_of d.now.why) variable value } }
 {
     d.why[64 * variable + value]

@@ -43,7 +43,7 @@ fn can_retract(
     room >= 128 && returning >= 2048 && d.clock <= LAST
 }
 
-// How many values are shown.
+// How many values are shown. A `for`: with `map` and `sum` it was tried, and the bound that `sum` asks did not close.
 fn count(d: &Domains) -> u32
     ensures { result ≡ total d.now.sets }
 {

@@ -47,10 +47,8 @@ returns c =
       stands = stands;
       kept = kept_out n d d' p c.requires.low c.requires.stands c.release_through.ensures.released c.release_through.ensures.clock d'' c.propagate.ensures.went;
       grew = grew_out n d d' p c.requires.low c.requires.stands c.release_through.ensures.released c.release_through.ensures.clock d'' stands;
-      clock = (
-        omega (arith, c.release_through.ensures.clock, c.propagate.ensures.went.later),
-        omega (arith, few, d'.sets_long, c.release_through.ensures.clock, c.propagate.ensures.went.spent),
-      );
+      later = omega (arith, c.release_through.ensures.clock, c.propagate.ensures.went.later);
+      soon = omega (arith, few, d'.sets_long, c.release_through.ensures.clock, c.propagate.ensures.went.spent);
       past = search rules;
       past_returning = c.release_through.ensures.past;
     }

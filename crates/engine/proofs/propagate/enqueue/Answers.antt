@@ -1,5 +1,6 @@
 use Rattle.std.proofs.Common.{refl}
-use Rattle.engine.proofs.Marks.{queued_push, mark_again, kept_refl}
+use Rattle.engine.proofs.Kept.{kept_refl}
+use Rattle.engine.proofs.Marks.{queued_push, mark_again}
 use Rattle.engine.proofs.propagate.enqueue.Goals as goal
 
 pub returns-then-not-marks-constraint : goal.returns-then-not-marks-constraint

@@ -1,6 +1,6 @@
 use Rattle.std.proofs.Common.{◌≡◌, ℕ, Some, refl, arith}
 use Rattle.domains.proofs.Settle.{settled_marked, supported_same, changed_yes, changed_no}
-use Rattle.engine.proofs.Marks.{kept_refl}
+use Rattle.engine.proofs.Kept.{kept_refl}
 use Rattle.engine.proofs.propagate.settle.Goals as goal
 
 some_one : (p r : ℕ) → Some p ≡ Some r → p ≡ r

@@ -2,7 +2,7 @@ use Rattle.std.proofs.Common.{◌≡◌, ℕ, sym, refl, ◌∙◌, subst, arith
 use Rattle.domains.specs.Sound.{Supported}
 use Rattle.domains.proofs.Revise.{went_refl, went_trans}
 use Rattle.domains.proofs.Settle.{settled_all, supported_absent, visited}
-use Rattle.engine.proofs.Marks.{kept_refl, kept_trans}
+use Rattle.engine.proofs.Kept.{kept_refl, kept_trans}
 use Rattle.engine.proofs.propagate.visit.Goals as goal
 
 pub returns-in_default : goal.returns-in_default

@@ -18,9 +18,9 @@ returns c =
     c.push.ensures.fits
     ∙ lt-ltb q.len q.limit (some_room d d' q.len q.limit c.requires.limit c.requires.few c.put_back.ensures.more)
     in
-    let here : 64 * i + x < length d'.why = omega (arith, c.requires.low, d'.why_long) in
+    let here : 64 * i + x < length d'.why = omega (arith, c.requires.variable, c.requires.value, d'.why_long) in
     let time : (get_or d'.why (64 * i + x) (record { constraint = 0; time = 0 })).time ≡ entry (times_of d.why) i x =
-    sym (time_read d'.why i x c.requires.low.1 here) ∙ ap (λ (j : List Justification). entry (times_of j) i x) c.put_back.ensures.why
+    sym (time_read d'.why i x c.requires.value here) ∙ ap (λ (j : List Justification). entry (times_of j) i x) c.put_back.ensures.why
     in
     record {
       put = c.put_back.ensures.put;

@@ -8,13 +8,14 @@ use Rattle.engine.proofs.release.free_among.Goals as goal
 use Rattle.engine.proofs.release.free_among.Goals.{then-has+then-names, then-has+else-names, else-has}
 
 pub names-requires : goal.names-requires
-names-requires c = record { low = (c.requires.low, omega (arith, c.requires.shape.small c.args.variable)) }
+names-requires c = record { variable = c.requires.low; value = omega (arith, c.requires.shape.small c.args.variable) }
 
 pub free-requires : goal.free-requires
 free-requires c =
     let yes = names_yes _ _ _ c.if-names.ensures in
     record {
-      low = (c.requires.low, omega (arith, c.requires.shape.small c.args.variable));
+      variable = c.requires.low;
+      value = omega (arith, c.requires.shape.small c.args.variable);
       was = yes.0;
       limit = c.loop-x.invariant.roomy.limit;
       few = c.loop-x.invariant.roomy.few;

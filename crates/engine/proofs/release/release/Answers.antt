@@ -7,7 +7,7 @@ use Rattle.domains.specs.Releasing.{Releasing}
 use Rattle.domains.proofs.Entries.{total_few}
 use Rattle.domains.proofs.Release.{releasing_start, released}
 use Rattle.engine.proofs.Beside.{named_both, names_rest}
-use Rattle.engine.proofs.Frees.{kept_trans}
+use Rattle.engine.proofs.Kept.{kept_trans}
 use Rattle.engine.proofs.release.release.Goals as goal
 
 pub loop-returning-smaller : goal.loop-returning-smaller
@@ -41,7 +41,7 @@ returns c =
     let S : List Returning → Type 0 = λ w. Releasing n p d d w in
     let E : List Returning → Type 0 = λ w. Releasing n p d d₃ w in
     let r₁ : Releasing n p d d₁ (waits c.free_among.new.q) =
-    c.free_among.ensures.frees p d [] (names_rest n p _ all d) (subst S (sym c.requires.empty.0) (releasing_start n p d c.requires.sound))
+    c.free_among.ensures.frees p d [] (names_rest n p _ all d) (subst S (sym c.requires.empty) (releasing_start n p d c.requires.sound))
     in
     let r₂ : Releasing n p d d₂ (waits c.free_among-2.new.q) = c.free_among-2.ensures.frees p d [] (names_rest n p _ all d) r₁ in
     let r₃ : Releasing n p d d₃ [] = subst E c.in_default.ensures.waiting.0 (c.loop-returning.invariant.5 p d r₂) in

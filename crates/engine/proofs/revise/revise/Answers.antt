@@ -12,7 +12,9 @@ put_out-requires c =
     let was : shown c.loop-x.d c.args.arc.near c.loop-x.x ≡ true = sym c.if-has.ensures in
     let some = total_positive c.loop-x.d c.args.arc.near c.loop-x.x c.requires.facing.near_low c.loop-x-test.true was in
     record {
-      low = (c.requires.facing.near_low, c.loop-x-test.true, c.requires.facing.constraint_low);
+      variable = c.requires.facing.near_low;
+      value = c.loop-x-test.true;
+      constraint = c.requires.facing.constraint_low;
       time = omega (arith, some, c.loop-x.invariant.went.spent, c.requires.time);
       was = was;
     }

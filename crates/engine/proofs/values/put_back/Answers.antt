@@ -8,11 +8,11 @@ returns c =
     let i = c.args.variable in
     let x = c.args.value in
     record {
-      put = put_back d i x c.requires.low.0 c.requires.low.1 c.requires.was;
+      put = put_back d i x c.requires.variable c.requires.value c.requires.was;
       clock = refl;
       why = refl;
-      more = back_total d i x c.requires.low.0 c.requires.low.1 c.requires.was;
-      others = sets_others d i x c.requires.low.0 c.requires.low.1 _;
+      more = back_total d i x c.requires.variable c.requires.value c.requires.was;
+      others = sets_others d i x c.requires.variable c.requires.value _;
     }
 
 pub invariant_of-d : goal.invariant_of-d
@@ -20,5 +20,5 @@ invariant_of-d c =
     let d = c.args.d.now in
     let i = c.args.variable in
     let x = c.args.value in
-    let e = with_value d i x c.requires.low.0 c.requires.low.1 in
+    let e = with_value d i x c.requires.variable c.requires.value in
     record { sets_long = e.sets_long; why_long = e.why_long; wide = e.wide }

@@ -8,10 +8,10 @@ returns c =
     let i = c.args.variable in
     let x = c.args.value in
     record {
-      put = put_out d i x c.requires.low.0 c.requires.low.1 c.args.constraint c.requires.was;
+      put = put_out d i x c.requires.variable c.requires.value c.args.constraint c.requires.was;
       clock = refl;
-      fewer = out_total d i x c.requires.low.0 c.requires.low.1 c.args.constraint c.requires.was;
-      others = sets_others d i x c.requires.low.0 c.requires.low.1 _;
+      fewer = out_total d i x c.requires.variable c.requires.value c.args.constraint c.requires.was;
+      others = sets_others d i x c.requires.variable c.requires.value _;
     }
 
 pub invariant_of-d : goal.invariant_of-d
@@ -19,5 +19,5 @@ invariant_of-d c =
     let d = c.args.d.now in
     let i = c.args.variable in
     let x = c.args.value in
-    let e = without d i x c.requires.low.0 c.requires.low.1 c.args.constraint in
+    let e = without d i x c.requires.variable c.requires.value c.args.constraint in
     record { sets_long = e.sets_long; why_long = e.why_long; wide = e.wide }

@@ -8,7 +8,8 @@ read-requires c =
     let s = stands_out c.args.self.now.constraints c.args.self.now.domains c.args.self.now.stands in
     let h : c.args.value < get_or c.args.self.now.constraints.sizes c.args.variable 0 = omega (arith, c.if-value-size.false, c.size.ensures) in
     record {
-      low = (asked_low c.args.self.now.constraints c.args.self.now.domains c.args.variable c.args.value s h, omega (arith, h, s.shape.small c.args.variable));
+      variable = asked_low c.args.self.now.constraints c.args.self.now.domains c.args.variable c.args.value s h;
+      value = omega (arith, h, s.shape.small c.args.variable);
     }
 
 pub returns : goal.returns

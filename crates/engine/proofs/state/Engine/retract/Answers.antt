@@ -51,8 +51,8 @@ returns c =
             right = right_now c.take_out.new.c c.take_out.new.d c.take_out.ensures.stands;
             grew = c.take_out.ensures.grew;
             kept = c.take_out.ensures.kept;
-            later = c.take_out.ensures.clock.0;
-            soon = c.take_out.ensures.clock.1;
+            later = c.take_out.ensures.later;
+            soon = c.take_out.ensures.soon;
             count = omega (
               arith,
               more_shown c.args.self.now.constraints c.take_out.new.c c.args.self.now.domains c.take_out.new.d

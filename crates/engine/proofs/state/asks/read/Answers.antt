@@ -8,6 +8,6 @@ returns c =
     let i = c.args.variable in
     let x = c.args.value in
     let w = c.args.d.now.why in
-    let low : 64 * i + x < length w = omega (arith, c.requires, c.args.d.now.why_long) in
-    ap (λ (n : ℕ). record { constraint = n; time = (get_or w (64 * i + x) (record { constraint = 0; time = 0 })).time }) (sym (reason_read w i x c.requires.low.1 low))
-    ∙ ap (λ (n : ℕ). record { constraint = entry (reasons_of w) i x; time = n }) (sym (time_read w i x c.requires.low.1 low))
+    let low : 64 * i + x < length w = omega (arith, c.requires.variable, c.requires.value, c.args.d.now.why_long) in
+    ap (λ (n : ℕ). record { constraint = n; time = (get_or w (64 * i + x) (record { constraint = 0; time = 0 })).time }) (sym (reason_read w i x c.requires.value low))
+    ∙ ap (λ (n : ℕ). record { constraint = entry (reasons_of w) i x; time = n }) (sym (time_read w i x c.requires.value low))
