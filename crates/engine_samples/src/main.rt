@@ -3,7 +3,7 @@
 
 use domains::Returning;
 use engine::Engine;
-use std::io;
+use std::{array, io};
 
 // Which pairs a made constraint allows.
 #[derive(Clone, Copy)]
@@ -17,39 +17,42 @@ enum Pairs {
     Mixed(u32),
 }
 
-fn allows(pairs: Pairs, x: u32, y: u32) -> bool {
-    match pairs {
-        Pairs::Above(gap) => y >= x.wrapping_add(u32::from(gap)),
-        Pairs::Below(gap) => x >= y.wrapping_add(u32::from(gap)),
-        Pairs::Differ => x != y,
-        Pairs::Mixed(seed) => {
-            let a = x
-                .wrapping_mul(2_654_435_761)
-                .wrapping_add(y.wrapping_mul(40_503))
-                .wrapping_add(seed);
-            let b = (a ^ (a >> 13)).wrapping_mul(1_274_126_177);
-            (b ^ (b >> 16)) % 7 == 0
+impl Pairs {
+    // Is x allowed beside y?
+    fn allow(self, x: u32, y: u32) -> bool {
+        match self {
+            Pairs::Above(gap) => y >= x.wrapping_add(u32::from(gap)),
+            Pairs::Below(gap) => x >= y.wrapping_add(u32::from(gap)),
+            Pairs::Differ => x != y,
+            Pairs::Mixed(seed) => {
+                let a = x
+                    .wrapping_mul(2_654_435_761)
+                    .wrapping_add(y.wrapping_mul(40_503))
+                    .wrapping_add(seed);
+                let b = (a ^ (a >> 13)).wrapping_mul(1_274_126_177);
+                (b ^ (b >> 16)) % 7 == 0
+            }
         }
+    }
+
+    // The values that are allowed beside x.
+    fn row(self, x: u32) -> u64 {
+        (0..64)
+            .filter(|y| self.allow(x, *y))
+            .fold(0, |set, y| bits::with(set, y as usize))
+    }
+
+    // A row for each value.
+    fn rows(self) -> [u64; 64] {
+        array::from_fn(|x| self.row(x as u32))
     }
 }
 
-fn row(pairs: Pairs, x: usize) -> u64 {
-    let mut set = 0;
-    for y in 0..64 {
-        if x < 64 && allows(pairs, x as u32, y as u32) {
-            set = bits::with(set, y);
-        }
-    }
-    set
-}
-
-fn rows(pairs: Pairs) -> [u64; 64] {
-    let mut all = [0; 64];
-    for x in 0..64 {
-        all[x] = row(pairs, x);
-    }
-    all
-}
+const NO_VALUE: Returning = Returning {
+    variable: 0,
+    value: 0,
+    time: 0,
+};
 
 // An engine with its two rooms.
 #[derive(Drop)]
@@ -59,33 +62,47 @@ struct Bench {
     returning: [Returning; 2048],
 }
 
-fn rooms() -> Bench {
-    let nobody = Returning {
-        variable: 0,
-        value: 0,
-        time: 0,
-    };
-    Bench {
-        engine: Engine::new(),
-        waiting: [0; 128],
-        returning: [nobody; 2048],
+impl Bench {
+    fn new() -> Bench {
+        Bench {
+            engine: Engine::new(),
+            waiting: [0; 128],
+            returning: [NO_VALUE; 2048],
+        }
     }
-}
 
-fn put_in(rt: &HostRuntime, b: &mut Bench, constraint: usize) -> io::Result<()> {
-    match b.engine.add(constraint, &mut b.waiting) {
-        Some(gone) => println!(rt; "in {constraint} gone {gone}"),
-        None => println!(rt; "in {constraint} refused"),
+    // Gives a constraint its ends and its pairs; says so only where that is refused.
+    fn load(
+        &mut self,
+        rt: &HostRuntime,
+        constraint: usize,
+        ends: (usize, usize),
+        pairs: Pairs,
+    ) -> io::Result<()> {
+        if self.engine.load(constraint, ends.0, ends.1, &pairs.rows()) {
+            Ok(())
+        } else {
+            println!(rt; "load {constraint} refused")
+        }
     }
-}
 
-fn take_out(rt: &HostRuntime, b: &mut Bench, constraint: usize) -> io::Result<()> {
-    match b
-        .engine
-        .retract(constraint, &mut b.waiting, &mut b.returning)
-    {
-        Some(back) => println!(rt; "out {constraint} back {back}"),
-        None => println!(rt; "out {constraint} refused"),
+    fn put_in(&mut self, rt: &HostRuntime, constraint: usize) -> io::Result<()> {
+        match self.engine.add(constraint, &mut self.waiting) {
+            Some(gone) => println!(rt; "in {constraint} gone {gone}"),
+            None => println!(rt; "in {constraint} refused"),
+        }
+    }
+
+    fn take_out(&mut self, rt: &HostRuntime, constraint: usize) -> io::Result<()> {
+        let Bench {
+            engine,
+            waiting,
+            returning,
+        } = self;
+        match engine.retract(constraint, waiting, returning) {
+            Some(back) => println!(rt; "out {constraint} back {back}"),
+            None => println!(rt; "out {constraint} refused"),
+        }
     }
 }
 
@@ -120,17 +137,16 @@ fn print_justifications(rt: &HostRuntime, e: &Engine, n: usize) -> io::Result<()
 fn chain_of_three(rt: &HostRuntime, b: &mut Bench) -> io::Result<()> {
     println!(rt; "chain of three")?;
     b.engine.open(&[3, 3, 3], 0);
-    let more = rows(Pairs::Above(1));
-    let _ = b.engine.load(0, 0, 1, &more);
-    let _ = b.engine.load(1, 1, 2, &more);
-    put_in(rt, b, 0)?;
+    b.load(rt, 0, (0, 1), Pairs::Above(1))?;
+    b.load(rt, 1, (1, 2), Pairs::Above(1))?;
+    b.put_in(rt, 0)?;
     print_domains(rt, &b.engine, 3)?;
-    put_in(rt, b, 1)?;
+    b.put_in(rt, 1)?;
     print_domains(rt, &b.engine, 3)?;
     print_justifications(rt, &b.engine, 3)?;
-    put_in(rt, b, 1)?;
-    take_out(rt, b, 0)?;
-    take_out(rt, b, 0)?;
+    b.put_in(rt, 1)?;
+    b.take_out(rt, 0)?;
+    b.take_out(rt, 0)?;
     print_domains(rt, &b.engine, 3)?;
     print_justifications(rt, &b.engine, 3)
 }
@@ -139,10 +155,10 @@ fn chain_of_three(rt: &HostRuntime, b: &mut Bench) -> io::Result<()> {
 fn two_on_a_pair(rt: &HostRuntime, b: &mut Bench) -> io::Result<()> {
     println!(rt; "two on a pair")?;
     b.engine.open(&[3, 3], 100);
-    let _ = b.engine.load(0, 0, 1, &rows(Pairs::Above(0)));
-    let _ = b.engine.load(1, 0, 1, &rows(Pairs::Differ));
-    put_in(rt, b, 0)?;
-    put_in(rt, b, 1)?;
+    b.load(rt, 0, (0, 1), Pairs::Above(0))?;
+    b.load(rt, 1, (0, 1), Pairs::Differ)?;
+    b.put_in(rt, 0)?;
+    b.put_in(rt, 1)?;
     print_domains(rt, &b.engine, 2)
 }
 
@@ -150,12 +166,12 @@ fn two_on_a_pair(rt: &HostRuntime, b: &mut Bench) -> io::Result<()> {
 fn against_each_other(rt: &HostRuntime, b: &mut Bench) -> io::Result<()> {
     println!(rt; "against each other")?;
     b.engine.open(&[2, 2, 2], 0);
-    let _ = b.engine.load(7, 0, 1, &rows(Pairs::Above(1)));
-    let _ = b.engine.load(9, 0, 1, &rows(Pairs::Below(1)));
-    put_in(rt, b, 7)?;
-    put_in(rt, b, 9)?;
+    b.load(rt, 7, (0, 1), Pairs::Above(1))?;
+    b.load(rt, 9, (0, 1), Pairs::Below(1))?;
+    b.put_in(rt, 7)?;
+    b.put_in(rt, 9)?;
     print_domains(rt, &b.engine, 3)?;
-    take_out(rt, b, 7)?;
+    b.take_out(rt, 7)?;
     print_domains(rt, &b.engine, 3)?;
     print_justifications(rt, &b.engine, 3)
 }
@@ -164,15 +180,14 @@ fn against_each_other(rt: &HostRuntime, b: &mut Bench) -> io::Result<()> {
 fn long_chain(rt: &HostRuntime, b: &mut Bench) -> io::Result<()> {
     println!(rt; "long chain")?;
     b.engine.open(&[64; 32], 5);
-    let more = rows(Pairs::Above(1));
     for p in 0..31 {
-        let _ = b.engine.load(p, p, p + 1, &more);
-        let _ = b.engine.add(p, &mut b.waiting);
+        b.load(rt, p, (p, p + 1), Pairs::Above(1))?;
+        b.engine.add(p, &mut b.waiting);
     }
     print_domains(rt, &b.engine, 32)?;
-    take_out(rt, b, 15)?;
+    b.take_out(rt, 15)?;
     print_domains(rt, &b.engine, 32)?;
-    put_in(rt, b, 15)?;
+    b.put_in(rt, 15)?;
     print_domains(rt, &b.engine, 32)
 }
 
@@ -181,23 +196,20 @@ fn mixed(rt: &HostRuntime, b: &mut Bench) -> io::Result<()> {
     println!(rt; "mixed")?;
     b.engine.open(&[24; 12], 1000);
     for p in 0..40 {
-        let left = p % 12;
-        let right = (p * 5 + 1) % 12;
-        let _ = b
-            .engine
-            .load(p, left, right, &rows(Pairs::Mixed(p as u32 * 977)));
-        put_in(rt, b, p)?;
+        let ends = (p % 12, (p * 5 + 1) % 12);
+        b.load(rt, p, ends, Pairs::Mixed(p as u32 * 977))?;
+        b.put_in(rt, p)?;
     }
     print_domains(rt, &b.engine, 12)?;
     for k in 0..14 {
-        take_out(rt, b, (k * 11 + 3) % 40)?;
+        b.take_out(rt, (k * 11 + 3) % 40)?;
     }
     print_domains(rt, &b.engine, 12)?;
     print_justifications(rt, &b.engine, 12)
 }
 
 fn main(rt: HostRuntime) -> io::Result<()> {
-    let mut b = rooms();
+    let mut b = Bench::new();
     chain_of_three(&rt, &mut b)?;
     two_on_a_pair(&rt, &mut b)?;
     against_each_other(&rt, &mut b)?;

@@ -10,7 +10,7 @@ use house::HouseCatalog;
 use samples::Sample;
 use samples::ladder::Ladder;
 use shown::show;
-use std::io;
+use std::{array, io};
 
 // Variables 0 to 5 in the other order; the others keep their numbers.
 const TURNED: [usize; 32] = [
@@ -175,10 +175,7 @@ fn piles(rt: &HostRuntime) -> io::Result<()> {
 
 // The full size: 32 variables of 64 values, each below the next.
 fn full(rt: &HostRuntime) -> io::Result<()> {
-    let mut indices = [0; 128];
-    for p in 0..128 {
-        indices[p] = 127 - p;
-    }
+    let indices: [usize; 128] = array::from_fn(|p| 127 - p);
     show(
         rt,
         "200 rungs: all of 128",

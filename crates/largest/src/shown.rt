@@ -1,43 +1,20 @@
 // One case: what the call gives, on a line for each variable.
 ghost use Rattle.std.specs.Prelude.{◌≡◌, count_by, nat_eq};
 
+use bits::Values;
 use catalog::Catalog;
 use scratch::largest_domains;
-use std::{fmt, io};
+use std::io;
 use wiped::wiped_out;
 
 // What the result list holds before the call: no case has these domains.
 const UNTOUCHED: u64 = 0x5555_5555_5555_5555;
 
-// The values of a domain, each after a blank.
-#[derive(Clone, Copy)]
-pub struct Values(u64);
-
-impl fmt::Display for Values {
-    fn fmt<W: fmt::Write>(&self, f: &mut fmt::Formatter<W>) -> fmt::Result {
-        if self.0 == 0 {
-            return write!(f, " none");
-        }
-        for y in 0..64 {
-            if bits::has(self.0, y) {
-                write!(f, " {y}")?;
-            }
-        }
-        Ok(())
-    }
-}
-
 // How many entries of the list hold the value.
 fn count_of(value: u64, list: &[u64]) -> usize
     ensures { result ≡ count_by (λ x. nat_eq x value) list.now }
 {
-    let mut n = 0;
-    for x in list {
-        if *x == value {
-            n += 1;
-        }
-    }
-    n
+    list.iter().filter(|x| **x == value).count()
 }
 
 // A line for each domain, and one that names the wiped-out variable.
@@ -66,10 +43,7 @@ pub fn show<C: Catalog>(
     println!(rt; "{title}")?;
     match largest_domains(catalog, sizes, indices, result) {
         Ok(()) => print_domains(rt, &result[0..sizes.len().min(result.len())])?,
-        Err(refusal) => {
-            let number = refusal.number();
-            println!(rt; "no {number}")?;
-        }
+        Err(refusal) => rt.println(refusal)?,
     }
     let kept = count_of(UNTOUCHED, result);
     println!(rt; "kept {kept}")

@@ -7,7 +7,7 @@ use domains::Justification;
 use network::Network;
 use network_law::Change;
 use refusal::Refusal;
-use rooms::{Rooms, lend};
+use rooms::Rooms;
 use samples::Sample;
 
 fn tell_change(
@@ -23,21 +23,27 @@ fn tell_change(
                 None => println!(rt; "  {call}: {values} values")?,
             }
         }
-        Err(refusal) => tell_refusal(rt, call, refusal)?,
+        Err(refusal) => println!(rt; "  {call}: {refusal}")?,
     }
     Ok(())
 }
 
-fn tell_refusal(rt: &HostRuntime, call: &str, refusal: Refusal) -> anyhow::Result<()> {
-    let number = refusal.number();
-    println!(rt; "  {call}: no {number}")?;
+// Tells a question's refusal, if it is refused.
+fn tell_refusal<T: Drop>(
+    rt: &HostRuntime,
+    question: &str,
+    answer: Result<T, Refusal>,
+) -> anyhow::Result<()> {
+    if let Err(refusal) = answer {
+        println!(rt; "  {question}: {refusal}")?;
+    }
     Ok(())
 }
 
 fn tell_opened(rt: &HostRuntime, call: &str, outcome: Result<(), Refusal>) -> anyhow::Result<()> {
     match outcome {
         Ok(()) => println!(rt; "  {call}: opened")?,
-        Err(refusal) => tell_refusal(rt, call, refusal)?,
+        Err(refusal) => println!(rt; "  {call}: {refusal}")?,
     }
     Ok(())
 }
@@ -45,21 +51,15 @@ fn tell_opened(rt: &HostRuntime, call: &str, outcome: Result<(), Refusal>) -> an
 fn unopened(rt: &HostRuntime) -> anyhow::Result<()> {
     println!(rt; "never opened")?;
     let mut network = Network::new(Sample::Chain);
-    let mut rooms = lend(rt.alloc(), 128, 2048)?;
+    let mut rooms = Rooms::lend(rt.alloc(), 128, 2048)?;
     let Rooms { waiting, returning } = &mut rooms;
     tell_change(rt, "add 0", network.add(0, waiting, returning))?;
     tell_change(rt, "add 2", network.add(2, waiting, returning))?;
     tell_change(rt, "retract 0", network.retract(0, waiting, returning))?;
     tell_change(rt, "retract 2", network.retract(2, waiting, returning))?;
-    if let Err(refusal) = network.domain(0) {
-        tell_refusal(rt, "domain 0", refusal)?;
-    }
-    if let Err(refusal) = network.is_shown(0, 0) {
-        tell_refusal(rt, "shown 0 0", refusal)?;
-    }
-    if let Err(refusal) = network.justification(0, 0) {
-        tell_refusal(rt, "justification 0 0", refusal)?;
-    }
+    tell_refusal(rt, "domain 0", network.domain(0))?;
+    tell_refusal(rt, "shown 0 0", network.is_shown(0, 0))?;
+    tell_refusal(rt, "justification 0 0", network.justification(0, 0))?;
     if network.wiped_out().is_none() {
         println!(rt; "  wiped out: none")?;
     }
@@ -76,12 +76,8 @@ fn openings(rt: &HostRuntime) -> anyhow::Result<()> {
     tell_opened(rt, "a size of 65", network.open(&[3, 3, 65], 0))?;
     tell_opened(rt, "0 among 33 sizes", network.open(&[0; 33], 0))?;
     tell_opened(rt, "sizes 3 3 3", network.open(&[3, 3, 3], 4_294_967_295))?;
-    if let Err(refusal) = network.domain(3) {
-        tell_refusal(rt, "domain 3", refusal)?;
-    }
-    if let Err(refusal) = network.is_shown(2, 3) {
-        tell_refusal(rt, "shown 2 3", refusal)?;
-    }
+    tell_refusal(rt, "domain 3", network.domain(3))?;
+    tell_refusal(rt, "shown 2 3", network.is_shown(2, 3))?;
     if let Ok(domain) = network.domain(2) {
         println!(rt; "  domain 2: {domain}")?;
     }
@@ -91,7 +87,7 @@ fn openings(rt: &HostRuntime) -> anyhow::Result<()> {
 fn last_times(rt: &HostRuntime) -> anyhow::Result<()> {
     println!(rt; "last times")?;
     let mut network = Network::new(Sample::Chain);
-    let mut rooms = lend(rt.alloc(), 128, 2048)?;
+    let mut rooms = Rooms::lend(rt.alloc(), 128, 2048)?;
     let Rooms { waiting, returning } = &mut rooms;
     tell_opened(
         rt,
@@ -113,18 +109,25 @@ fn last_times(rt: &HostRuntime) -> anyhow::Result<()> {
     Ok(())
 }
 
-fn same(a: Option<Justification>, b: Option<Justification>) -> bool {
-    match (a, b) {
-        (Some(a), Some(b)) => a.constraint == b.constraint && a.time == b.time,
-        _ => false,
+// Tells whether a value is out for the same reason before and after.
+fn tell_kept(
+    rt: &HostRuntime,
+    value: &str,
+    before: Result<Option<Justification>, Refusal>,
+    after: Result<Option<Justification>, Refusal>,
+) -> anyhow::Result<()> {
+    if let (Ok(before), Ok(after)) = (before, after) {
+        let kept = before.is_some() && before == after;
+        println!(rt; "  {value}: {kept}")?;
     }
+    Ok(())
 }
 
 // Retracting constraint 0 of the chain leaves what rests on constraint 1 alone.
 fn kept(rt: &HostRuntime) -> anyhow::Result<()> {
     println!(rt; "kept justifications")?;
     let mut network = Network::new(Sample::Chain);
-    let mut rooms = lend(rt.alloc(), 128, 2048)?;
+    let mut rooms = Rooms::lend(rt.alloc(), 128, 2048)?;
     let Rooms { waiting, returning } = &mut rooms;
     tell_opened(rt, "sizes 3 3 3", network.open(&[3, 3, 3], 0))?;
     tell_change(rt, "add 0", network.add(0, waiting, returning))?;
@@ -132,15 +135,18 @@ fn kept(rt: &HostRuntime) -> anyhow::Result<()> {
     let first = network.justification(1, 2);
     let second = network.justification(2, 0);
     tell_change(rt, "retract 0", network.retract(0, waiting, returning))?;
-    if let (Ok(before), Ok(after)) = (first, network.justification(1, 2)) {
-        let kept = same(before, after);
-        println!(rt; "  value 2 of variable 1: {kept}")?;
-    }
-    if let (Ok(before), Ok(after)) = (second, network.justification(2, 0)) {
-        let kept = same(before, after);
-        println!(rt; "  value 0 of variable 2: {kept}")?;
-    }
-    Ok(())
+    tell_kept(
+        rt,
+        "value 2 of variable 1",
+        first,
+        network.justification(1, 2),
+    )?;
+    tell_kept(
+        rt,
+        "value 0 of variable 2",
+        second,
+        network.justification(2, 0),
+    )
 }
 
 fn with_rooms(
@@ -151,7 +157,7 @@ fn with_rooms(
 ) -> anyhow::Result<()> {
     println!(rt; "{name}")?;
     let mut network = Network::new(Sample::Chain);
-    let mut lent = lend(rt.alloc(), waiting, returning)?;
+    let mut lent = Rooms::lend(rt.alloc(), waiting, returning)?;
     tell_opened(rt, "sizes 3 3 3", network.open(&[3, 3, 3], 0))?;
     tell_change(
         rt,
@@ -174,17 +180,13 @@ fn with_rooms(
     Ok(())
 }
 
-fn run(rt: &HostRuntime) -> anyhow::Result<()> {
-    unopened(rt)?;
-    openings(rt)?;
-    last_times(rt)?;
-    kept(rt)?;
-    with_rooms(rt, "rooms of 127 and 2048", 127, 2048)?;
-    with_rooms(rt, "rooms of 128 and 2047", 128, 2047)?;
-    with_rooms(rt, "rooms of 128 and 2048", 128, 2048)?;
-    with_rooms(rt, "rooms of 130 and 2050", 130, 2050)
-}
-
 fn main(rt: HostRuntime) -> anyhow::Result<()> {
-    run(&rt)
+    unopened(&rt)?;
+    openings(&rt)?;
+    last_times(&rt)?;
+    kept(&rt)?;
+    with_rooms(&rt, "rooms of 127 and 2048", 127, 2048)?;
+    with_rooms(&rt, "rooms of 128 and 2047", 128, 2047)?;
+    with_rooms(&rt, "rooms of 128 and 2048", 128, 2048)?;
+    with_rooms(&rt, "rooms of 130 and 2050", 130, 2050)
 }

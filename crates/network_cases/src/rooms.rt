@@ -11,31 +11,23 @@ pub struct Rooms {
 
 const MARK: u8 = 255;
 
-pub fn lend(heap: Global, waiting: usize, returning: usize) -> Result<Rooms, AllocError> {
-    let entry = Returning {
-        variable: MARK,
-        value: MARK,
-        time: 0,
-    };
-    Ok(Rooms {
-        waiting: vec![in heap; MARK; waiting]?,
-        returning: vec![in heap; entry; returning]?,
-    })
-}
+const ENTRY: Returning = Returning {
+    variable: MARK,
+    value: MARK,
+    time: 0,
+};
 
 impl Rooms {
+    pub fn lend(heap: Global, waiting: usize, returning: usize) -> Result<Rooms, AllocError> {
+        Ok(Rooms {
+            waiting: vec![in heap; MARK; waiting]?,
+            returning: vec![in heap; ENTRY; returning]?,
+        })
+    }
+
     // Do the entries from these on stand as they were lent?
     pub fn as_lent_from(&self, waiting: usize, returning: usize) -> bool {
-        for w in self.waiting.iter().skip(waiting) {
-            if *w != MARK {
-                return false;
-            }
-        }
-        for r in self.returning.iter().skip(returning) {
-            if r.variable != MARK || r.value != MARK {
-                return false;
-            }
-        }
-        true
+        self.waiting.iter().skip(waiting).all(|w| *w == MARK)
+            && self.returning.iter().skip(returning).all(|r| *r == ENTRY)
     }
 }

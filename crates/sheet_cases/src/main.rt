@@ -2,60 +2,48 @@
 // A line is a name, a colon and the sheet's bytes: words of hexadecimal digits, each perhaps followed by `*` and how often it stands.
 #![tactic(auto)]
 
-use anyhow::anyhow;
+use anyhow::{Context, anyhow};
 use sheet::check;
 use sheet_text::{accepted_line, fault_line};
-use std::alloc::{AllocError, Global};
+use std::alloc::Global;
 use std::io::{BufRead, BufReader};
 
-fn digit(c: u8) -> Option<u8> {
+fn digit(c: u8) -> anyhow::Result<u8> {
     match c {
-        b'0'..=b'9' => Some(c - b'0'),
-        b'a'..=b'f' => Some(c - b'a' + 10),
-        _ => None,
+        b'0'..=b'9' => Ok(c - b'0'),
+        b'a'..=b'f' => Ok(c - b'a' + 10),
+        _ => Err(anyhow!("a word is not hexadecimal")),
     }
 }
 
-// The bytes that the digits of a word write; nothing where they are none.
-fn bytes_of(heap: Global, word: &str) -> Result<Option<Vec<u8>>, AllocError> {
-    let mut bytes = Vec::new(heap);
-    let mut high = None;
-    for c in word.bytes() {
-        let Some(low) = digit(c) else {
-            return Ok(None);
-        };
-        match high {
-            None => high = Some(low),
-            Some(h) => {
-                bytes.push((h & 15) * 16 | (low & 15))?;
-                high = None;
-            }
-        }
-    }
-    Ok(Some(bytes))
+// The bytes that a word's digits write. Not by the crate `hex`, which reads capitals too and refuses a digit that is left over.
+fn bytes_of(heap: Global, word: &str) -> anyhow::Result<Vec<u8>> {
+    let digits: Vec<u8> = word.bytes().map(digit).try_collect(heap)?;
+    let (pairs, _) = digits.as_chunks::<2>();
+    let bytes = pairs
+        .iter()
+        .map(|[high, low]| (*high & 15) * 16 | (*low & 15))
+        .collect(heap)?;
+    Ok(bytes)
 }
 
-// Adds a word's bytes to a sheet; false where it is no word.
-fn add_word(heap: Global, sheet: &mut Vec<u8>, word: &str) -> anyhow::Result<bool> {
+// Adds a word's bytes to a sheet, as often as it says.
+fn add_word(heap: Global, sheet: &mut Vec<u8>, word: &str) -> anyhow::Result<()> {
     let (digits, times) = match word.split_once('*') {
         Some((digits, count)) => (digits, count.parse::<u32>()?),
         None => (word, 1),
     };
-    let Some(bytes) = bytes_of(heap, digits)? else {
-        return Ok(false);
-    };
+    let bytes = bytes_of(heap, digits)?;
     for _ in 0..times {
-        sheet.extend_from_slice(bytes.as_slice())?;
+        sheet.extend_from_slice(&bytes)?;
     }
-    Ok(true)
+    Ok(())
 }
 
 fn sheet_of(heap: Global, text: &str) -> anyhow::Result<Vec<u8>> {
     let mut sheet = Vec::new(heap);
     for word in text.split(' ') {
-        if !add_word(heap, &mut sheet, word)? {
-            return Err(anyhow!("a word is not hexadecimal"));
-        }
+        add_word(heap, &mut sheet, word)?;
     }
     Ok(sheet)
 }
@@ -77,18 +65,12 @@ fn try_case(rt: &HostRuntime, name: &str, sheet: &[u8]) -> anyhow::Result<()> {
     Ok(())
 }
 
-fn run(rt: &HostRuntime) -> anyhow::Result<()> {
+fn main(rt: HostRuntime) -> anyhow::Result<()> {
     for line in BufReader::new(rt.alloc(), rt.stdin())?.lines(rt.alloc()) {
         let line = line?;
-        let Some((name, text)) = line.as_str().split_once(':') else {
-            return Err(anyhow!("a line has no name"));
-        };
+        let (name, text) = line.split_once(':').context("a line has no name")?;
         let sheet = sheet_of(rt.alloc(), text)?;
-        try_case(rt, name, sheet.as_slice())?;
+        try_case(&rt, name, &sheet)?;
     }
     Ok(())
-}
-
-fn main(rt: HostRuntime) -> anyhow::Result<()> {
-    run(&rt)
 }

@@ -16,12 +16,6 @@ use sheet_text::fault_line;
 use std::io;
 use std::io::Read;
 
-fn read_all(rt: &HostRuntime) -> io::Result<Vec<u8>> {
-    let mut bytes = Vec::new(rt.alloc());
-    rt.stdin().read_to_end(&mut bytes)?;
-    Ok(bytes)
-}
-
 // A line for each constraint.
 fn print_constraints<C: Catalog>(rt: &HostRuntime, catalog: &C, sizes: &[usize]) -> io::Result<()> {
     for p in 0..catalog.count() {
@@ -41,33 +35,26 @@ fn print_constraints<C: Catalog>(rt: &HostRuntime, catalog: &C, sizes: &[usize])
 fn print_domains<C: Catalog>(rt: &HostRuntime, catalog: &C, sizes: &[usize]) -> anyhow::Result<()> {
     let indices = inside(rt.alloc(), catalog, sizes.len())?;
     let mut list = [0; 32];
-    match largest_domains(catalog, sizes, indices.as_slice(), &mut list) {
+    match largest_domains(catalog, sizes, &indices, &mut list) {
         Ok(()) => {
-            for i in 0..sizes.len().min(32) {
-                rt.println(domain_line(rt.alloc(), i, list[i])?)?;
+            for (i, domain) in list.iter().enumerate().take(sizes.len()) {
+                rt.println(domain_line(rt.alloc(), i, *domain)?)?;
             }
         }
-        Err(refusal) => {
-            let number = refusal.number();
-            println!(rt; "no {number}")?;
-        }
+        Err(refusal) => rt.println(refusal)?,
     }
     Ok(())
 }
 
-fn run(rt: &HostRuntime) -> anyhow::Result<()> {
-    let bytes = read_all(rt)?;
-    let sheet = bytes.as_slice();
-    if let Err(fault) = check(sheet) {
+fn main(rt: HostRuntime) -> anyhow::Result<()> {
+    let mut sheet = Vec::new(rt.alloc());
+    rt.stdin().read_to_end(&mut sheet)?;
+    if let Err(fault) = check(&sheet) {
         rt.println(fault_line(rt.alloc(), fault)?)?;
         return Ok(());
     }
-    let catalog = pile(sheet);
-    let sizes = Sizes::of(sheet);
-    print_constraints(rt, &catalog, sizes.as_slice())?;
-    print_domains(rt, &catalog, sizes.as_slice())
-}
-
-fn main(rt: HostRuntime) -> anyhow::Result<()> {
-    run(&rt)
+    let catalog = pile(&sheet);
+    let sizes = Sizes::of(&sheet);
+    print_constraints(&rt, &catalog, sizes.as_slice())?;
+    print_domains(&rt, &catalog, sizes.as_slice())
 }
