@@ -8,25 +8,15 @@ use report::lines_of;
 use runner::RunFault;
 use sheet_run::run_sheet;
 use sheet_text::fault_line;
-use std::io;
 use std::io::Read;
 
-fn read_all(rt: &HostRuntime) -> io::Result<Vec<u8>> {
-    let mut bytes = Vec::new(rt.alloc());
-    rt.stdin().read_to_end(&mut bytes)?;
-    Ok(bytes)
-}
-
-fn run(rt: &HostRuntime) -> anyhow::Result<()> {
-    let bytes = read_all(rt)?;
-    match run_sheet(rt.alloc(), bytes.as_slice()) {
+fn main(rt: HostRuntime) -> anyhow::Result<()> {
+    let mut sheet = Vec::new(rt.alloc());
+    rt.stdin().read_to_end(&mut sheet)?;
+    match run_sheet(rt.alloc(), &sheet) {
         Ok(report) => rt.print(lines_of(rt.alloc(), &report)?)?,
         Err(RunFault::Sheet(fault)) => rt.println(fault_line(rt.alloc(), fault)?)?,
         Err(_) => return Err(anyhow!("no memory for the run")),
     }
     Ok(())
-}
-
-fn main(rt: HostRuntime) -> anyhow::Result<()> {
-    run(&rt)
 }

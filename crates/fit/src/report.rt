@@ -1,6 +1,5 @@
 // What a run prints.
-use network_law::{Answer, Change};
-use refusal::Refusal;
+use network_law::Answer;
 use run_text::{domain_line, move_line};
 use runner::outcome_of;
 use sheet_run::Report;
@@ -11,18 +10,12 @@ fn add_line(out: &mut String, line: String) -> Result<(), AllocError> {
     out.push_str("\n")
 }
 
-fn outcome(answer: Answer, before: usize) -> Option<Result<Change, Refusal>> {
-    match outcome_of(answer, before)? {
-        Ok(change) => Some(Ok(change)),
-        Err(fault) => Some(Err(fault.refusal)),
-    }
-}
-
 // A line for each move: what came of it, or why it was refused.
 fn add_moves(heap: Global, out: &mut String, report: &Report) -> Result<(), AllocError> {
     let answers = report.answers.iter().skip(1);
     for ((before, m), answer) in report.moves.iter().enumerate().zip(answers) {
-        if let Some(outcome) = outcome(*answer, before) {
+        if let Some(outcome) = outcome_of(*answer, before) {
+            let outcome = outcome.map_err(|fault| fault.refusal);
             add_line(out, move_line(heap, *m, outcome)?)?;
         }
     }
