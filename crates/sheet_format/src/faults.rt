@@ -10,11 +10,11 @@ use std::fmt;
 #[derive(Clone, Copy, PartialEq, Eq, Debug)]
 pub enum RecordCause {
     // no byte is left
-    Missing,
+    Missing = 21,
     // one to three bytes are left, or the length is under 4 or past the bytes left
-    BadLength,
+    BadLength = 22,
     // the kind is not 1 to 7
-    UnknownKind,
+    UnknownKind = 23,
 }
 
 // A record that cannot be taken off, and where it begins.
@@ -27,17 +27,17 @@ pub struct RecordFault {
 // Why a sheet of whole records is refused.
 #[derive(Clone, Copy, PartialEq, Eq, Debug)]
 pub enum Cause {
-    TooLong,
-    OutOfTurn,
-    TooManyConstraints,
-    WrongLength,
-    BadHeading,
-    BadSize,
-    BadHouse,
-    BadEnds,
-    BadSum,
-    BadRow,
-    Trailing,
+    TooLong = 31,
+    OutOfTurn = 32,
+    TooManyConstraints = 33,
+    WrongLength = 34,
+    BadHeading = 35,
+    BadSize = 36,
+    BadHouse = 37,
+    BadEnds = 38,
+    BadSum = 39,
+    BadRow = 40,
+    Trailing = 41,
 }
 
 // A record that the format refuses, and where it begins.
@@ -66,11 +66,7 @@ impl RecordCause {
     pub fn number(self) -> u8
         ensures { result ≡ record_number self }
     {
-        match self {
-            RecordCause::Missing => 21,
-            RecordCause::BadLength => 22,
-            RecordCause::UnknownKind => 23,
-        }
+        self as u8
     }
 }
 
@@ -79,19 +75,7 @@ impl Cause {
     pub fn number(self) -> u8
         ensures { result ≡ cause_number self }
     {
-        match self {
-            Cause::TooLong => 31,
-            Cause::OutOfTurn => 32,
-            Cause::TooManyConstraints => 33,
-            Cause::WrongLength => 34,
-            Cause::BadHeading => 35,
-            Cause::BadSize => 36,
-            Cause::BadHouse => 37,
-            Cause::BadEnds => 38,
-            Cause::BadSum => 39,
-            Cause::BadRow => 40,
-            Cause::Trailing => 41,
-        }
+        self as u8
     }
 }
 

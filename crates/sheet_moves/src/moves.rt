@@ -33,7 +33,8 @@ impl From<AllocError> for MovesFault {
     }
 }
 
-// the move whose record begins at the byte k
+// The move whose record begins at the byte k. By its one byte, since the check has seen a 5 or a 6 there: a match on `Kind` would have an arm for the
+// five kinds that it is not.
 fn move_at(sheet: &[u8], k: usize) -> Move
     requires { k + 5 < length sheet.now }
     ensures { said result ≡ move_at sheet.now k }
@@ -54,6 +55,7 @@ pub fn moves_of(heap: Global, sheet: &[u8]) -> Result<Vec<Move>, MovesFault>
     let count = found.moves as usize;
     let begin = found.moves_at as usize;
     let mut moves = Vec::with_capacity(heap, count)?;
+    // A loop: of `(0..count).map(..).collect(..)` it did not close that the closure may be called at each turn.
     for i in 0..count {
         moves.push_reserved(move_at(sheet, begin + 6 * i));
     }
