@@ -13,7 +13,8 @@ mod starts;
 mod view;
 
 // The constraints of the sheet that the bytes hold, in the sheet's order; none where the check refuses the bytes. What a question needs is
-// read from the bytes at the place where its constraint begins, which is known from the start.
+// read from the bytes at the place where its constraint begins, which is known from the start. The places are an array and a count, since
+// an ArrayVec is not Copy.
 #[derive(Clone, Copy)]
 pub struct SheetCatalog<'a> {
     bytes: &'a [u8],

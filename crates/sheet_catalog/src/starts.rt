@@ -10,7 +10,8 @@ use crate::view::{Constraint, constraint_in};
 use sheet::{Accepted, read_record};
 use sheet_format::word;
 
-// Where each constraint of the sheet begins, one after the other.
+// Where each constraint of the sheet begins, one after the other. By index: entry p belongs to constraint p, and a zip with the entries is no
+// plainer.
 pub(crate) fn starts_of(sheet: &Accepted<'_>) -> [u32; 96]
     ensures wide { length result ≡ 96 }
     ensures begun { (p : ℕ) → p < sheet.now.found.constraints → Begun sheet.now.bytes.now (decode sheet.now.bytes.now) result p }
