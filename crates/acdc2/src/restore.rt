@@ -37,7 +37,7 @@ impl Restored {
     }
 }
 
-// Puts back every value of `u` that is out for a reason that the test accepts.
+// Puts back every value of `u` that is out for a reason that the test accepts. A loop and no filter, since it changes the state that it reads.
 fn put_back<F: Fn(usize, Justification) -> bool>(state: &mut State, u: usize, test: F) -> Restored
     requires { F.IsAlwaysCallable test }
 {

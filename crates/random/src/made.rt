@@ -50,6 +50,7 @@ fn table(random: &mut Random, density: Density) -> Table {
 }
 
 // Up to 24 tables on variables below `span`.
+// Not one function with `sums`: of an array of a type parameter the proof that it fits in memory did not close (tried: from_fn, map).
 pub fn tables(random: &mut Random, count: usize, span: usize, density: Density) -> Tables
     ensures { result.count ≡ count }
 {
