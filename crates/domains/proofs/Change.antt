@@ -11,7 +11,7 @@ use Rattle.justify.proofs.Keeps.{more_keeps, release_keeps, same_trans}
 use Rattle.domains.specs.declared.Constraints.{Constraints}
 use Rattle.domains.specs.declared.Domains.{Domains}
 use Rattle.domains.specs.Model.{within, is_present, left_of, right_of, pair_at, arcs_of, shown, standing, total, reason_is}
-use Rattle.domains.specs.Sound.{Arrays, Shape, Sound, Went, Supported, Settled}
+use Rattle.domains.specs.Sound.{Shape, Sound, Went, Supported, Settled}
 use Rattle.domains.specs.Stands.{Stands, with_present}
 use Rattle.domains.proofs.Entries.{total_few}
 use Rattle.domains.proofs.Facing.{on_present, tied_low}
@@ -44,19 +44,15 @@ module _ (c : Constraints) (p : ℕ) (b : Bool) where
       let s : Support (arcs_of c) (shown d) i r x = sup i x (sym (other_on i r ne) ∙ on) h in
       record { value = s.value; shown = s.shown; beside = same_fits i r x s.value ∙ s.beside }
 
-  arrays_present : Arrays c → Arrays (with_present c p b)
-  arrays_present a =
-      record { sizes = a.sizes; present = length-set c.present p b ∙ a.present; left = a.left; right = a.right; rows = a.rows }
-
   pub shape_present : ((r : ℕ) → is_present (with_present c p b) r ≡ true → left_of c r ≡ right_of c r → ⊥) → Shape c → Shape (with_present c p b)
   shape_present apart s =
-      record { arrays = arrays_present s.arrays; small = s.small; left_low = s.left_low; right_low = s.right_low; apart = apart; mirror = s.mirror }
+      record { small = s.small; left_low = s.left_low; right_low = s.right_low; apart = apart; mirror = s.mirror }
 
 -- ---- a constraint goes in
 
 module _ (c : Constraints) (d : Domains) (p : ℕ) (low : p < 128) (stands : Stands c d) where
   this_present : is_present (with_present c p true) p ≡ true
-  this_present = get_or-set_same c.present p true false (omega (arith, stands.shape.arrays.present))
+  this_present = get_or-set_same c.present p true false (omega (arith, c.present_long))
 
   pub shape_in : (left_of c p ≡ right_of c p → ⊥) → Shape (with_present c p true)
   shape_in apart =
@@ -101,7 +97,7 @@ time_left d h =
 
 module _ (c : Constraints) (d d' : Domains) (p : ℕ) (low : p < 128) (stands : Stands c d) where
   absent : is_present (with_present c p false) p ≡ false
-  absent = get_or-set_same c.present p false false (omega (arith, stands.shape.arrays.present))
+  absent = get_or-set_same c.present p false false (omega (arith, c.present_long))
 
   -- a constraint that is in then is another one
   in_other : (i r : ℕ) → (arcs_of (with_present c p false)).on i r ≡ true → r ≡ p → ⊥

@@ -7,3 +7,4 @@ pub mod Release
 pub mod Props
 pub mod Change
 pub mod Setup
+pub mod Lengths

@@ -14,7 +14,7 @@ use Rattle.justify.proofs.Reach.{justified_largest}
 use Rattle.domains.specs.declared.Constraints.{Constraints}
 use Rattle.domains.specs.declared.Domains.{Domains}
 use Rattle.domains.specs.Model.{within, arcs_of, shown, standing}
-use Rattle.domains.specs.Sound.{Arrays, Shape, Sound}
+use Rattle.domains.specs.Sound.{Shape, Sound}
 use Rattle.domains.specs.Stands.{Stands}
 use Rattle.domains.proofs.Facing.{Seen, seen}
 use Rattle.domains.proofs.Revise.{support_yes, support_no}
@@ -22,20 +22,9 @@ use Rattle.domains.proofs.Revise.{support_yes, support_no}
 le : {a b : ℕ} → IsProp (a ≤ b)
 le = le_prop
 
-arrays_prop : (c : Constraints) → IsProp (Arrays c)
-arrays_prop c x y i =
-    record {
-      sizes = ℕ_set _ _ x.sizes y.sizes i;
-      present = ℕ_set _ _ x.present y.present i;
-      left = ℕ_set _ _ x.left y.left i;
-      right = ℕ_set _ _ x.right y.right i;
-      rows = ℕ_set _ _ x.rows y.rows i;
-    }
-
 pub shape_prop : (c : Constraints) → IsProp (Shape c)
 shape_prop c x y i =
     record {
-      arrays = arrays_prop c x.arrays y.arrays i;
       small = Π_prop (λ _. le) x.small y.small i;
       left_low = Π_prop (λ _. le) x.left_low y.left_low i;
       right_low = Π_prop (λ _. le) x.right_low y.right_low i;

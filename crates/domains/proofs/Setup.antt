@@ -46,14 +46,6 @@ pub stands_none : Stands no_constraints no_domains
 stands_none =
     stands_full no_constraints no_domains
     (record {
-      arrays =
-          record {
-            sizes = length-replicate {A = ℕ} 32 0;
-            present = length-replicate 128 false;
-            left = length-replicate {A = ℕ} 128 0;
-            right = length-replicate {A = ℕ} 128 0;
-            rows = length-replicate {A = ℕ} 16384 0;
-          };
       small = λ i. omega (arith, zero_at 32 i);
       left_low = λ p. omega (arith, zero_at 128 p);
       right_low = λ p. omega (arith, zero_at 128 p);
@@ -77,8 +69,20 @@ both_small x n h =
     (cases_lt x n)
 
 -- the constraints with these sizes and none in
-abbrev pub reopened : Constraints → List ℕ → Constraints
-reopened c sizes = record { sizes = sizes; present = replicate 128 false; left = c.left; right = c.right; rows = c.rows }
+abbrev pub reopened : Constraints → (sizes : List ℕ) → length sizes ≡ 32 → Constraints
+reopened c sizes long =
+    record {
+      sizes = sizes;
+      present = replicate 128 false;
+      left = c.left;
+      right = c.right;
+      rows = c.rows;
+      sizes_long = long;
+      present_long = length-replicate 128 false;
+      left_long = c.left_long;
+      right_long = c.right_long;
+      rows_long = c.rows_long;
+    }
 
 pub sizes_small : (sizes given : List ℕ) → ((i : ℕ) → get_or sizes i 0 ≡ cond (ltb i 32) (min 64 (get_or given i 0)) 0) → (i : ℕ) → get_or sizes i 0 ≤ 64
 sizes_small sizes given e i =
@@ -86,7 +90,7 @@ sizes_small sizes given e i =
     (cases_Bool (ltb i 32))
 
 module _ (c : Constraints) (d d' : Domains) (sizes : List ℕ) (stands : Stands c d) (long : length sizes ≡ 32) (small : (i : ℕ) → get_or sizes i 0 ≤ 64) (full : (i x : ℕ) → i < 32 → shown d' i x ≡ (ltb x (get_or sizes i 0) && ltb x 64)) where
-  pub all_shown : (i x : ℕ) → shown d' i x ≡ within (reopened c sizes) i x
+  pub all_shown : (i x : ℕ) → shown d' i x ≡ within (reopened c sizes long) i x
   all_shown i x =
       ⊎_elim (λ l. full i x l ∙ both_small x (get_or sizes i 0) (small i))
       (λ g.
@@ -94,22 +98,14 @@ module _ (c : Constraints) (d d' : Domains) (sizes : List ℕ) (stands : Stands 
       ∙ sym (ap (λ n. ltb x n) (get_or_past sizes i 0 (omega arith)) ∙ le-ltb x 0 (omega arith)))
       (cases_lt i 32)
 
-  pub stands_open : Stands (reopened c sizes) d'
+  pub stands_open : Stands (reopened c sizes long) d'
   stands_open =
-      stands_full (reopened c sizes) d'
+      stands_full (reopened c sizes long) d'
       (record {
-        arrays =
-            record {
-              sizes = long;
-              present = length-replicate 128 false;
-              left = stands.shape.arrays.left;
-              right = stands.shape.arrays.right;
-              rows = stands.shape.arrays.rows;
-            };
         small = small;
         left_low = stands.shape.left_low;
         right_low = stands.shape.right_low;
-        apart = λ p h _. both_ways (is_present (reopened c sizes) p) (none_at 128 p) h;
+        apart = λ p h _. both_ways (is_present (reopened c sizes long) p) (none_at 128 p) h;
         mirror = stands.shape.mirror;
       })
       (none_at 128)
@@ -173,10 +169,22 @@ module _ (c c' : Constraints) (d : Domains) (p left right : ℕ) (rows : List �
 
 -- ---- the rows of a loaded constraint
 
-module _ (c : Constraints) (p left right : ℕ) (old mid new rows turned : List ℕ) (low : p < 128) (shape : Shape c) (was : old ≡ c.rows) where
+module _ (c : Constraints) (p left right : ℕ) (old mid new rows turned : List ℕ) (low : p < 128) (shape : Shape c) (was : old ≡ c.rows) (long : length new ≡ 16384) where
   -- the constraints with these ends and rows of p
   abbrev pub reloaded : Constraints
-  reloaded = record { sizes = c.sizes; present = c.present; left = set c.left p left; right = set c.right p right; rows = new }
+  reloaded =
+      record {
+        sizes = c.sizes;
+        present = c.present;
+        left = set c.left p left;
+        right = set c.right p right;
+        rows = new;
+        sizes_long = c.sizes_long;
+        present_long = c.present_long;
+        left_long = length-set c.left p left ∙ c.left_long;
+        right_long = length-set c.right p right ∙ c.right_long;
+        rows_long = long;
+      }
 
   module _ (first : (k : ℕ) → k < 64 → get_or mid (128 * p + k) 0 ≡ get_or rows k 0) (before : (j : ℕ) → (j < 128 * p) ⊎ (128 * p + 64 ≤ j) → get_or mid j 0 ≡ get_or old j 0) (second : (k : ℕ) → k < 64 → get_or new (128 * p + 64 + k) 0 ≡ get_or turned k 0) (after : (j : ℕ) → (j < 128 * p + 64) ⊎ (128 * p + 64 + 64 ≤ j) → get_or new j 0 ≡ get_or mid j 0) (turn : (x y : ℕ) → x < 64 → y < 64 → has_bit (get_or turned y 0) x ≡ has_bit (get_or rows x 0) y) where
     row_here : (x : ℕ) → x < 64 → get_or new (128 * p + x) 0 ≡ get_or rows x 0
@@ -217,25 +225,17 @@ module _ (c : Constraints) (p left right : ℕ) (old mid new rows turned : List 
     ends_low ends v all h e r =
         ⊎_elim (λ q. omega (arith, ap (λ k. get_or (set ends p v) k 0) q ∙ get_or-set_same ends p v 0 (omega arith))) (λ ne. omega (arith, get_or-set_other ends p r v 0 ne, all r)) (cases_eq r p)
 
-    pub load_shape : left < 32 → right < 32 → (left ≡ right → ⊥) → length new ≡ 16384 → Shape reloaded
-    load_shape ll rl apart long =
+    pub load_shape : left < 32 → right < 32 → (left ≡ right → ⊥) → Shape reloaded
+    load_shape ll rl apart =
         record {
-          arrays =
-              record {
-                sizes = shape.arrays.sizes;
-                present = shape.arrays.present;
-                left = length-set c.left p left ∙ shape.arrays.left;
-                right = length-set c.right p right ∙ shape.arrays.right;
-                rows = long;
-              };
           small = shape.small;
-          left_low = ends_low c.left left shape.left_low ll shape.arrays.left;
-          right_low = ends_low c.right right shape.right_low rl shape.arrays.right;
+          left_low = ends_low c.left left shape.left_low ll c.left_long;
+          right_low = ends_low c.right right shape.right_low rl c.right_long;
           apart = λ r h e.
               ⊎_elim
               (λ q. apart
-              (sym (get_or-set_same c.left p left 0 (omega (arith, shape.arrays.left))) ∙ subst (λ k. get_or (set c.left p left) k 0 ≡ get_or (set c.right p right) k 0) q e
-              ∙ get_or-set_same c.right p right 0 (omega (arith, shape.arrays.right))))
+              (sym (get_or-set_same c.left p left 0 (omega (arith, c.left_long))) ∙ subst (λ k. get_or (set c.left p left) k 0 ≡ get_or (set c.right p right) k 0) q e
+              ∙ get_or-set_same c.right p right 0 (omega (arith, c.right_long))))
               (λ ne. shape.apart r h (sym (get_or-set_other c.left p r left 0 ne) ∙ e ∙ get_or-set_other c.right p r right 0 ne))
               (cases_eq r p);
           mirror = mirrored;
@@ -244,8 +244,8 @@ module _ (c : Constraints) (p left right : ℕ) (old mid new rows turned : List 
     pub load_done : Loaded c reloaded p left right rows
     load_done =
         record {
-          left_end = get_or-set_same c.left p left 0 (omega (arith, shape.arrays.left));
-          right_end = get_or-set_same c.right p right 0 (omega (arith, shape.arrays.right));
+          left_end = get_or-set_same c.left p left 0 (omega (arith, c.left_long));
+          right_end = get_or-set_same c.right p right 0 (omega (arith, c.right_long));
           pairs = pair_here;
           left_others = λ r ne. get_or-set_other c.left p r left 0 ne;
           right_others = λ r ne. get_or-set_other c.right p r right 0 ne;

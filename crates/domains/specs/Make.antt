@@ -1,5 +1,5 @@
 -- Data to begin with.
-use Rattle.std.specs.Prelude.{ℕ, false, replicate}
+use Rattle.std.specs.Prelude.{ℕ, Bool, false, replicate}
 use Rattle.std.proofs.lemmas.List.{length-replicate}
 use Rattle.domains.specs.Zeros.{zeros_wide}
 use Rattle.domains.specs.declared.Constraints.{Constraints}
@@ -8,7 +8,19 @@ use Rattle.domains.specs.declared.Justification.{Justification}
 
 -- no variables, no constraint in, nothing allowed
 abbrev pub no_constraints : Constraints
-no_constraints = record { sizes = replicate 32 0; present = replicate 128 false; left = replicate 128 0; right = replicate 128 0; rows = replicate 16384 0 }
+no_constraints =
+    record {
+      sizes = replicate 32 0;
+      present = replicate 128 false;
+      left = replicate 128 0;
+      right = replicate 128 0;
+      rows = replicate 16384 0;
+      sizes_long = length-replicate {A = ℕ} 32 0;
+      present_long = length-replicate {A = Bool} 128 false;
+      left_long = length-replicate {A = ℕ} 128 0;
+      right_long = length-replicate {A = ℕ} 128 0;
+      rows_long = length-replicate {A = ℕ} 16384 0;
+    }
 
 -- no values, at time 0
 abbrev pub no_domains : Domains

@@ -9,17 +9,8 @@ use Rattle.domains.specs.declared.Constraints.{Constraints}
 use Rattle.domains.specs.declared.Domains.{Domains}
 use Rattle.domains.specs.Model.{within, is_present, left_of, right_of, arcs_of, shown, standing, total}
 
--- the arrays of the constraints are as long as their types say
-pub record Arrays (c : Constraints) : Type 0 where
-  pub sizes : length c.sizes ≡ 32
-  pub present : length c.present ≡ 128
-  pub left : length c.left ≡ 128
-  pub right : length c.right ≡ 128
-  pub rows : length c.rows ≡ 16384
-
 -- sizes up to 64; two different ends below 32; each pair stands in both rows
 pub record Shape (c : Constraints) : Type 0 where
-  pub arrays : Arrays c
   pub small : (i : ℕ) → slice_index c.sizes i ≤ 64
   pub left_low : (p : ℕ) → left_of c p < 32
   pub right_low : (p : ℕ) → right_of c p < 32

@@ -1,5 +1,6 @@
 -- When constraints and domains stand rightly together, between calls.
 use Rattle.std.specs.Prelude.{◌≡◌, ℕ, ◌<◌, Bool, List, length, drop, ◌≢◌, slice_index, slice_set}
+use Rattle.std.proofs.Common.{length-set, ◌∙◌}
 use Rattle.arcs.specs.Family.{Consistent}
 use Rattle.domains.specs.declared.Constraints.{Constraints}
 use Rattle.domains.specs.declared.Domains.{Domains}
@@ -15,7 +16,19 @@ pub record Stands (c : Constraints) (d : Domains) : Type 0 where
 
 -- the constraints with p in, or not in
 abbrev pub with_present : Constraints → ℕ → Bool → Constraints
-with_present c p b = record { sizes = c.sizes; present = slice_set c.present p b; left = c.left; right = c.right; rows = c.rows }
+with_present c p b =
+    record {
+      sizes = c.sizes;
+      present = slice_set c.present p b;
+      left = c.left;
+      right = c.right;
+      rows = c.rows;
+      sizes_long = c.sizes_long;
+      present_long = length-set c.present p b ∙ c.present_long;
+      left_long = c.left_long;
+      right_long = c.right_long;
+      rows_long = c.rows_long;
+    }
 
 -- a lent room is as long as it was, and past its first n entries as it was
 pub record Past {T : Type 0} (n : ℕ) (room room' : List T) : Type 0 where

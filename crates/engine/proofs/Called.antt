@@ -1,5 +1,5 @@
 -- What the tests before a call give, and what a call leaves.
-use Rattle.std.proofs.Common.{◌≡◌, ℕ, ◌<◌, ◌≤◌, min, true, false, cond, not, ◌&&◌, eqb, ltb, List, length, get_or, Some, None, Option, MatchOption, sym, refl, ap, ◌∙◌, ⊎_elim, arith}
+use Rattle.std.proofs.Common.{subst, ◌≡◌, ℕ, ◌<◌, ◌≤◌, min, true, false, cond, not, ◌&&◌, eqb, ltb, List, length, get_or, Some, None, Option, MatchOption, sym, refl, ap, ◌∙◌, ⊎_elim, arith}
 use Rattle.std.proofs.lemmas.List.{get_or_past}
 use Rattle.std.proofs.lemmas.Bool.{and_from, and_parts, cases_lt, cond-true, eq-eqb, eqb-false, lt-ltb, ltb-false, ltb-true, not_from_false, not-true}
 use Rattle.arcs.specs.Family.{Inside}
@@ -14,7 +14,7 @@ use Rattle.domains.specs.Stands.{Stands}
 use Rattle.domains.proofs.Entries.{total_inside}
 use Rattle.domains.proofs.Props.{stands_largest}
 use Rattle.domains.proofs.Setup.{all_shown, none_at, reopened, sizes_small, stands_open}
-use Rattle.engine.specs.Calls.{can_add, can_load, can_retract, justification_of, Opened, Right}
+use Rattle.engine.specs.Calls.{Loadable, can_add, can_load, can_retract, justification_of, Opened, Right}
 
 pub record Addable (c : Constraints) (d : Domains) (p room : ℕ) : Type 0 where
   pub low : p < 128
@@ -63,13 +63,14 @@ more_shown c c' d d' s s' grew =
     total_inside d.sets d'.sets (d.sets_long ∙ sym d'.sets_long) d.wide d'.wide grew
 
 -- an opening
-module _ (c : Constraints) (d d' : Domains) (given sizes : List ℕ) (stands : Stands c d) (long : length sizes ≡ 32) (capped : (i : ℕ) → get_or sizes i 0 ≡ cond (ltb i 32) (min 64 (get_or given i 0)) 0) (full : (i x : ℕ) → i < 32 → shown d' i x ≡ (ltb x (get_or sizes i 0) && ltb x 64)) where
-  pub afresh_stands : Stands (reopened c sizes) d'
-  afresh_stands = stands_open c d d' sizes stands long (sizes_small sizes given capped) full
+module _ (c : Constraints) (d d' : Domains) (given sizes : List ℕ) (stands : Stands c d) (long : length sizes ≡ 32) (capped : (i : ℕ) → get_or sizes i 0 ≡ cond (ltb i 32) (min 64 (get_or given i 0)) 0) (full : (i x : ℕ) → i < 32 → shown d' i x ≡ (ltb x (get_or sizes i 0) && ltb x 64)) (c' : Constraints) (same : reopened c sizes long ≡ c') where
+  pub afresh_stands : Stands c' d'
+  afresh_stands = subst (λ k. Stands k d') same (stands_open c d d' sizes stands long (sizes_small sizes given capped) full)
 
-  pub afresh_opened : Opened c (reopened c sizes) d' given d'.clock
+  pub afresh_opened : Opened c c' d' given d'.clock
   afresh_opened =
-      record {
+      subst (λ k. Opened c k d' given d'.clock) same
+      (record {
         sizes = capped;
         none = none_at 128;
         left = refl;
@@ -77,16 +78,8 @@ module _ (c : Constraints) (d d' : Domains) (given sizes : List ℕ) (stands : S
         rows = refl;
         all = all_shown c d d' sizes stands long (sizes_small sizes given capped) full;
         clock = refl;
-        stands = right_now (reopened c sizes) d' afresh_stands;
-      }
-
--- a constraint may be loaded
-pub record Loadable (c : Constraints) (p left right : ℕ) : Type 0 where
-  pub low : p < 128
-  pub absent : is_present c p ≡ false
-  pub left_low : left < 32
-  pub right_low : right < 32
-  pub apart : left ≡ right → ⊥
+        stands = right_now (reopened c sizes long) d' (stands_open c d d' sizes stands long (sizes_small sizes given capped) full);
+      })
 
 pub loadable : (c : Constraints) (p left right : ℕ) → true ≡ can_load c p left right → Loadable c p left right
 loadable c p left right e =
@@ -106,7 +99,7 @@ loadable c p left right e =
 
 pub asked_low : (c : Constraints) (d : Domains) (i x : ℕ) → Stands c d → x < get_or c.sizes i 0 → i < 32
 asked_low c d i x s h =
-    ⊎_elim (λ l. l) (λ g. absurd (omega (arith, get_or_past c.sizes i 0 (omega (arith, s.shape.arrays.sizes))))) (cases_lt i 32)
+    ⊎_elim (λ l. l) (λ g. absurd (omega (arith, get_or_past c.sizes i 0 (omega (arith, c.sizes_long))))) (cases_lt i 32)
 
 pub justified_by : (c : Constraints) (d : Domains) (i x set : ℕ) (j : Justification) → x < get_or c.sizes i 0 → set ≡ get_or d.sets i 0 → false ≡ has_bit set x → j ≡ record { constraint = (standing d).reason i x; time = (standing d).time i x } → Some j ≡ justification_of c d i x
 justified_by c d i x set j h e out is =

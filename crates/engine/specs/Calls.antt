@@ -1,5 +1,5 @@
 -- What a call on an engine does.
-use Rattle.std.specs.Prelude.{◌≡◌, ℕ, ◌+◌, ◌≤◌, min, Bool, true, false, cond, not, ◌&&◌, List, Some, None, Option, ◌==◌, nat_lt, slice_index}
+use Rattle.std.specs.Prelude.{◌≡◌, ℕ, ◌+◌, ◌<◌, ◌≤◌, min, Bool, true, false, cond, not, ◌&&◌, List, Some, None, Option, ◌==◌, nat_lt, slice_index}
 use Rattle.arcs.specs.Family.{Inside, Largest}
 use Rattle.justify.specs.Standing.{Out, Justified, Timed, Rests}
 use Rattle.justify.specs.Changes.{Same}
@@ -59,3 +59,11 @@ pub record Opened (c c' : Constraints) (d' : Domains) (given : List ℕ) (time :
 -- the justification of a value that is out, or nothing
 abbrev pub justification_of : Constraints → Domains → ℕ → ℕ → Option Justification
 justification_of c d i x = cond (within c i x && not (shown d i x)) (Some (record { constraint = (standing d).reason i x; time = (standing d).time i x })) None
+
+-- a constraint may be loaded
+pub record Loadable (c : Constraints) (p left right : ℕ) : Type 0 where
+  pub low : p < 128
+  pub absent : is_present c p ≡ false
+  pub left_low : left < 32
+  pub right_low : right < 32
+  pub apart : left ≡ right → ⊥

@@ -5,7 +5,7 @@ ghost use Rattle.justify.specs.Changes.{Released, Same};
 ghost use Rattle.justify.specs.Standing.{Out, Rests};
 ghost use Rattle.queue.specs.Waiting.{Kept};
 ghost use Rattle.domains.specs.Model.{arcs_of, left_of, reason_is, right_of, shown, standing, within};
-ghost use Rattle.domains.specs.Sound.{Arrays, Went};
+ghost use Rattle.domains.specs.Sound.{Went};
 ghost use Rattle.domains.specs.Stands.{Past, Stands, with_present};
 ghost use Rattle.engine.specs.Queued.{Queued};
 
@@ -41,7 +41,6 @@ fn enqueue_changed(
     before: &[u64; 32],
     after: &[u64; 32],
 )
-    requires arrays { Arrays c.now }
     requires queued { Queued q.old marks.old }
     ensures queued { Queued q.new marks.new }
     ensures kept { Kept q.old q.new }

@@ -5,7 +5,7 @@ ghost use Rattle.std.specs.Prelude.{◌≡◌, ℕ, ◌+◌, ◌^◌, ◌<◌, �
 ghost use Rattle.arcs.specs.Family.{Consistent};
 ghost use Rattle.queue.specs.Waiting.{Kept};
 ghost use Rattle.domains.specs.Model.{arcs_of, shown, total};
-ghost use Rattle.domains.specs.Sound.{Arrays, Facing, Revising, Settled, SettledBut, Shape, Sound, Went};
+ghost use Rattle.domains.specs.Sound.{Facing, Revising, Settled, SettledBut, Shape, Sound, Went};
 ghost use Rattle.engine.specs.Queued.{Queued};
 
 use crate::revise::{arc_at, revise};
@@ -15,7 +15,6 @@ use queue::Queue;
 // Does the constraint, if it is in, tie the variable?
 pub(crate) fn ties(c: &Constraints, variable: usize, constraint: usize) -> bool
     requires low { constraint < 128 }
-    requires arrays { Arrays c.now }
     ensures { result ≡ (arcs_of c.now).on variable constraint }
 {
     if !c.present[constraint] {
@@ -46,7 +45,6 @@ pub(crate) fn enqueue_at(
     variable: usize,
     except: Option<usize>,
 )
-    requires arrays { Arrays c.now }
     requires queued { Queued q.old marks.old }
     ensures queued { Queued q.new marks.new }
     ensures kept { Kept q.old q.new }

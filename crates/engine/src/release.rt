@@ -6,7 +6,7 @@ ghost use Rattle.queue.specs.Waiting.{Kept, waits};
 ghost use Rattle.bits.specs.Bits.{has_bit};
 ghost use Rattle.domains.specs.Model.{arcs_of, entry, is_present, reason_is, reasons_of, shown, standing, times_of, total, within};
 ghost use Rattle.domains.specs.Releasing.{Followed, Low, Releasing};
-ghost use Rattle.domains.specs.Sound.{Arrays, Facing, Shape, Sound};
+ghost use Rattle.domains.specs.Sound.{Facing, Shape, Sound};
 ghost use Rattle.engine.specs.Returns.{FreesAmong, Grew, Roomy};
 
 use crate::revise::arc_at;

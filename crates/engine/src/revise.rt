@@ -1,7 +1,7 @@
 // One variable is held against the other end of one constraint.
 ghost use Rattle.std.specs.Prelude.{◌≡◌, ℕ, ◌+◌, ◌^◌, ◌<◌, ◌≤◌, true, false, not, MatchOption, ◌==◌};
 ghost use Rattle.domains.specs.Model.{arcs_of, total};
-ghost use Rattle.domains.specs.Sound.{Arrays, Facing, RevisedBelow, Revising, Shape, Sound, Went};
+ghost use Rattle.domains.specs.Sound.{Facing, RevisedBelow, Revising, Shape, Sound, Went};
 
 use crate::values::put_out;
 use domains::{Arc, Constraints, Domains};
@@ -38,7 +38,6 @@ pub(crate) fn arc_at(c: &Constraints, variable: usize, constraint: usize) -> Opt
 
 // Puts out exactly the values of the arc's near variable that have no support at the far one; says whether there were any.
 pub(crate) fn revise(c: &Constraints, d: &mut Domains, arc: Arc) -> bool
-    requires arrays { Arrays c.now }
     requires facing { Facing c.now arc }
     requires sound { Sound c.now d.old }
     requires time { d.old.clock + total d.old.sets < 2 ^ 32 }

@@ -1,6 +1,5 @@
 ghost use Rattle.std.specs.Prelude.{◌≡◌, ℕ, ◌+◌, ◌<◌, ◌≤◌, true, false, length, is_some, MatchOption};
 ghost use Rattle.domains.specs.Model.{total};
-ghost use Rattle.domains.specs.Sound.{Arrays};
 ghost use Rattle.domains.specs.Stands.{Past, Stands};
 ghost use Rattle.engine.specs.Calls.{Added, Retracted, can_add, can_retract};
 
@@ -12,7 +11,6 @@ use domains::{Constraints, Domains, Returning};
 const LAST: u32 = 4_294_965_247;
 
 fn can_add(c: &Constraints, d: &Domains, constraint: usize, room: usize) -> bool
-    requires { Arrays c.now }
     ensures { result ≡ can_add c.now d.now constraint room }
 {
     if constraint >= 128 {
@@ -31,7 +29,6 @@ fn can_retract(
     room: usize,
     returning: usize,
 ) -> bool
-    requires { Arrays c.now }
     ensures { result ≡ can_retract c.now d.now constraint room returning }
 {
     if constraint >= 128 {

@@ -1,14 +1,13 @@
 ghost use Rattle.std.specs.Prelude.{◌≡◌, ℕ, ◌+◌, ◌<◌, ◌≤◌, true, false, ◌⊎◌, length, MatchBool, slice_index};
 ghost use Rattle.domains.specs.Make.{no_constraints, no_domains};
-ghost use Rattle.domains.specs.Sound.{Arrays};
 ghost use Rattle.domains.specs.Stands.{Loaded};
-ghost use Rattle.engine.specs.Calls.{Opened, can_load};
+ghost use Rattle.domains.specs.Sound.{Shape};
+ghost use Rattle.engine.specs.Calls.{Loadable, Opened, can_load};
 
 use super::Engine;
 use domains::{Constraints, capped, full, no_constraints, no_domains};
 
 fn can_load(c: &Constraints, constraint: usize, left: usize, right: usize) -> bool
-    requires { Arrays c.now }
     ensures { result ≡ can_load c.now constraint left right }
 {
     if constraint >= 128 {
@@ -29,6 +28,20 @@ fn write_rows(all: &mut [u64; 16384], at: usize, rows: &[u64; 64])
     ensures others { (j : ℕ) → (j < at) ⊎ (at + 64 ≤ j) → slice_index all.new j ≡ slice_index all.old j }
 {
     all[at..at + 64].copy_from_slice(rows);
+}
+
+// Gives a constraint that is not in its ends and its rows.
+fn write(c: &mut Constraints, constraint: usize, left: usize, right: usize, rows: &[u64; 64])
+    requires loadable { Loadable c.old constraint left right }
+    requires shape { Shape c.old }
+    ensures loaded { Loaded c.old c.new constraint left right rows.now }
+    ensures shape { Shape c.new }
+{
+    let turned = supports::turned(rows);
+    c.left[constraint] = left as u8;
+    c.right[constraint] = right as u8;
+    write_rows(&mut c.rows, 128 * constraint, rows);
+    write_rows(&mut c.rows, 128 * constraint + 64, &turned);
 }
 
 impl Engine {
@@ -64,11 +77,7 @@ impl Engine {
         if !can_load(&self.constraints, constraint, left, right) {
             return false;
         }
-        let turned = supports::turned(rows);
-        self.constraints.left[constraint] = left as u8;
-        self.constraints.right[constraint] = right as u8;
-        write_rows(&mut self.constraints.rows, 128 * constraint, rows);
-        write_rows(&mut self.constraints.rows, 128 * constraint + 64, &turned);
+        write(&mut self.constraints, constraint, left, right, rows);
         true
     }
 }

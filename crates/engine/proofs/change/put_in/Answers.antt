@@ -1,5 +1,7 @@
-use Rattle.std.proofs.Common.{◌≡◌, true, false, length, get_or, replicate, refl, ap, ◌∙◌, arith}
+use Rattle.std.proofs.Common.{◌≡◌, true, false, length, get_or, replicate, refl, subst, ap, ◌∙◌, arith}
 use Rattle.std.proofs.lemmas.List.{get_or-set_same, length-replicate}
+use Rattle.domains.specs.Sound.{Shape, Sound, Settled}
+use Rattle.domains.proofs.Lengths.{same_data}
 use Rattle.domains.proofs.Change.{shape_in, sound_in, settled_in, time_left}
 use Rattle.engine.proofs.Start.{queued_start}
 use Rattle.engine.proofs.change.put_in.Goals as goal
@@ -21,9 +23,9 @@ propagate-requires c =
     ap (λ m. get_or m p false) c.enqueue.ensures.marks ∙ get_or-set_same (replicate 128 false) p true false (omega (arith, long, c.requires.low))
     in
     record {
-      shape = shape_in n d p c.requires.low c.requires.stands c.requires.apart;
-      sound = sound_in n d p c.requires.low c.requires.stands;
+      shape = subst Shape same_data (shape_in n d p c.requires.low c.requires.stands c.requires.apart);
+      sound = subst (λ k. Sound k d) same_data (sound_in n d p c.requires.low c.requires.stands);
       time = time_left d c.requires.time;
       queued = c.enqueue.ensures.queued;
-      settled = settled_in n d p c.requires.low c.requires.stands c.enqueue.new.marks here;
+      settled = subst (λ k. Settled k d c.enqueue.new.marks) same_data (settled_in n d p c.requires.low c.requires.stands c.enqueue.new.marks here);
     }

@@ -3,9 +3,6 @@ use Rattle.domains.proofs.Props.{stands_out}
 use Rattle.engine.proofs.Called.{addable, right_now}
 use Rattle.engine.proofs.state.Engine.add.Goals as goal
 
-pub can_add-requires : goal.can_add-requires
-can_add-requires c = (stands_out c.args.self.now.constraints c.args.self.now.domains c.args.self.now.stands).shape.arrays
-
 pub returns-then-not-can_add : goal.returns-then-not-can_add
 returns-then-not-can_add c =
     record { can = c.if-not-can_add.ensures; added = (refl, refl, refl); past = record { long = refl; rest = refl } }

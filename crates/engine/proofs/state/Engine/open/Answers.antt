@@ -1,21 +1,23 @@
+use Rattle.domains.proofs.Lengths.{same_data}
 use Rattle.domains.proofs.Props.{stands_out}
 use Rattle.engine.proofs.Called.{afresh_stands, afresh_opened}
 use Rattle.engine.proofs.state.Engine.open.Goals as goal
 
-pub invariant_of-self : goal.invariant_of-self
-invariant_of-self c = record { sets_long = c.full-sets.ensures.long; why_long = c.args.self.now.domains.why_long; wide = c.full-sets.ensures.wide }
-
 pub invariant_of-self-3 : goal.invariant_of-self-3
-invariant_of-self-3 c =
+invariant_of-self-3 c = record { sets_long = c.full-sets.ensures.long; why_long = c.args.self.now.domains.why_long; wide = c.full-sets.ensures.wide }
+
+pub invariant_of-self-4 : goal.invariant_of-self-4
+invariant_of-self-4 c =
     let n = c.args.self.now.constraints in
     let d = c.args.self.now.domains in
     record {
       stands = ∣ afresh_stands n d _ c.args.sizes.now c.capped-sizes.result (stands_out n d c.args.self.now.stands) c.capped-sizes.ensures.long
-          c.capped-sizes.ensures.sizes c.full-sets.ensures.shown ∣₁;
+          c.capped-sizes.ensures.sizes c.full-sets.ensures.shown _ same_data ∣₁;
     }
 
 pub returns : goal.returns
 returns c =
     let n = c.args.self.now.constraints in
     let d = c.args.self.now.domains in
-    afresh_opened n d _ c.args.sizes.now c.capped-sizes.result (stands_out n d c.args.self.now.stands) c.capped-sizes.ensures.long c.capped-sizes.ensures.sizes c.full-sets.ensures.shown
+    afresh_opened n d _ c.args.sizes.now c.capped-sizes.result (stands_out n d c.args.self.now.stands) c.capped-sizes.ensures.long
+    c.capped-sizes.ensures.sizes c.full-sets.ensures.shown _ same_data

@@ -3,9 +3,6 @@ use Rattle.domains.proofs.Props.{stands_out}
 use Rattle.engine.proofs.Called.{retractable, right_now, more_shown}
 use Rattle.engine.proofs.state.Engine.retract.Goals as goal
 
-pub can_retract-requires : goal.can_retract-requires
-can_retract-requires c = (stands_out c.args.self.now.constraints c.args.self.now.domains c.args.self.now.stands).shape.arrays
-
 pub returns-then-not-can_retract : goal.returns-then-not-can_retract
 returns-then-not-can_retract c =
     record {
