@@ -45,7 +45,7 @@ module _ (m : Meaning) (lawful : Lawful m) (s : State) (linked : Linked m s) whe
   asked k a none book answer = record { linked = linked; step = step_asked m (moment_of s) k a none book answer right_in }
 
   pub as_many : length (take s.variables s.engine.constraints.sizes) ≡ s.variables
-  as_many = variables_are m lawful s.engine.constraints s.variables s.known linked (stands_in s).shape.arrays.sizes
+  as_many = variables_are m lawful s.engine.constraints s.variables s.known linked s.engine.constraints.sizes_long
 
   size : (i : ℕ) → get_or (moment_of s).book.sizes i 0 ≡ get_or s.engine.constraints.sizes i 0
   size i = same_size m lawful s.engine.constraints s.variables s.known linked i

@@ -111,8 +111,8 @@ module _ (m : Meaning) (lawful : Lawful m) (s : State) (p : ℕ) (waiting : List
               subst M (sym same)
               (step_add m lawful c c₁ c' d d' s.variables s.known s'.known p ch.values (rooms_of waiting returning) ch.wiped linked
               (subst (λ w. Links m c' w s'.known) same after) learnt.sizes learnt.present
-              (subst (λ w. p < w) (sym (stands_in s₁).shape.arrays.present) (omega (arith, (learnt.linked.means p learnt.known).is_one, lawful.few)))
-              (stands_in s').shape.arrays.sizes
+              (subst (λ w. p < w) (sym s₁.engine.constraints.present_long) (omega (arith, (learnt.linked.means p learnt.known).is_one, lawful.few)))
+              s'.engine.constraints.sizes_long
               (subst (λ w. WipedOut (shown d') w ch.wiped) learnt.variables wiped)
               (refusal-adds ∙ sym none) (subst A learnt.domains did));
         }
@@ -138,7 +138,7 @@ module _ (m : Meaning) (lawful : Lawful m) (s : State) (p : ℕ) (waiting : List
               subst M (sym v)
               (step_retract m lawful c c c' d d' s.variables s.known s'.known p ch.values (rooms_of waiting returning) ch.wiped linked
               (subst (λ w. Links m c' w s'.known) v after) refl refl
-              (subst (λ w. p < w) (sym (stands_in s).shape.arrays.present) (omega (arith, (linked.means p known).is_one, lawful.few)))
-              (stands_in s').shape.arrays.sizes wiped
+              (subst (λ w. p < w) (sym s.engine.constraints.present_long) (omega (arith, (linked.means p known).is_one, lawful.few)))
+              s'.engine.constraints.sizes_long wiped
               (sym none) refl (stands_in s).sound.justified did);
         }

@@ -1,4 +1,3 @@
-use Rattle.std.proofs.Common.{refl}
 use Rattle.domains.proofs.Props.{stands_out}
 use Rattle.domains.proofs.Setup.{stands_load}
 use Rattle.engine.proofs.Called.{loadable}

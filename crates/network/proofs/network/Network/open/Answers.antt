@@ -4,7 +4,6 @@ use Rattle.network_law.specs.Calls.{opens}
 use Rattle.network_model.specs.Model.{moment_of}
 use Rattle.network_model.proofs.Asking.{refused}
 use Rattle.network_model.proofs.Opening.{links_open, step_open}
-use Rattle.domains.proofs.Props.{stands_out}
 use Rattle.network.proofs.network.Network.open.Goals as goal
 
 pub returns-in_err-check_sizes : goal.returns-in_err-check_sizes
@@ -25,14 +24,13 @@ returns g c =
     let m = g.C.Catalog.meaning n.catalog in
     let lawful = g.C.Catalog.lawful n.catalog in
     let e = c.open.new.self in
-    let stands = stands_out e.constraints e.domains e.stands in
     record {
       catalog = refl;
       performs = λ linked.
           record {
             linked = links_open m lawful n.state.engine.constraints e.constraints e.domains c.args.sizes.now c.narrow.result c.args.time
-                (sym c.in_ok-check_sizes.ensures) c.narrow.ensures stands.shape.arrays.sizes c.open.ensures _ refl;
+                (sym c.in_ok-check_sizes.ensures) c.narrow.ensures e.constraints.sizes_long c.open.ensures _ refl;
             step = step_open m lawful n.state.engine.constraints e.constraints e.domains c.args.sizes.now c.narrow.result c.args.time
-                (sym c.in_ok-check_sizes.ensures) c.narrow.ensures stands.shape.arrays.sizes c.open.ensures (moment_of n.state);
+                (sym c.in_ok-check_sizes.ensures) c.narrow.ensures e.constraints.sizes_long c.open.ensures (moment_of n.state);
           };
     }
