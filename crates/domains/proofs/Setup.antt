@@ -1,5 +1,5 @@
 -- To begin with nothing is in and everything is shown; and a constraint that is not in may have any ends and rows.
-use Rattle.std.proofs.Common.{◌≡◌, ℕ, ◌+◌, ◌*◌, ◌<◌, ◌≤◌, min, true, false, cond, ◌&&◌, ◌||◌, eqb, ltb, ◌⊎◌, List, length, get_or, set, replicate, sym, refl, ap, ◌∙◌, subst, inl, inr, ⊎_elim, arith}
+use Rattle.std.proofs.Common.{suc, zero, ◌≡◌, ℕ, ◌+◌, ◌*◌, ◌<◌, ◌≤◌, min, true, false, cond, ◌&&◌, ◌||◌, eqb, ltb, ◌⊎◌, List, length, get_or, set, replicate, sym, refl, ap, ◌∙◌, subst, inl, inr, ⊎_elim, arith}
 use Rattle.std.proofs.lemmas.List.{get_or_past, get_or-replicate, length-replicate, get_or-set_same, get_or-set_other, length-set}
 use Rattle.std.proofs.lemmas.Bool.{cases_lt, cases_eq, cases_Bool, both_ways, lt-ltb, le-ltb, and_from}
 use Rattle.arcs.specs.Family.{Support, Inside, within_sizes}
@@ -10,7 +10,8 @@ use Rattle.justify.specs.Changes.{MoreReasons}
 use Rattle.justify.proofs.Keeps.{more_keeps}
 use Rattle.domains.specs.declared.Constraints.{Constraints}
 use Rattle.domains.specs.declared.Domains.{Domains}
-use Rattle.domains.specs.Model.{within, is_present, left_of, right_of, pair_at, arcs_of, shown, standing}
+use Rattle.domains.specs.declared.Ends.{Ends}
+use Rattle.domains.specs.Model.{no_ends, within, is_present, left_of, right_of, pair_at, arcs_of, shown, standing}
 use Rattle.domains.specs.Sound.{Shape}
 use Rattle.domains.specs.Stands.{Stands, Loaded}
 use Rattle.domains.specs.Make.{no_constraints, no_domains}
@@ -42,13 +43,18 @@ stands_full c d shape none all =
 zero_bit : (x : ℕ) → has_bit 0 x ≡ false
 zero_bit x = ap (λ n. eqb n 1) (bit_of_zero x)
 
+no_ends_at : (n p : ℕ) → get_or (replicate n no_ends) p no_ends ≡ no_ends
+no_ends_at zero p = refl
+no_ends_at (suc n) zero = refl
+no_ends_at (suc n) (suc p) = no_ends_at n p
+
 pub stands_none : Stands no_constraints no_domains
 stands_none =
     stands_full no_constraints no_domains
     (record {
       small = λ i. omega (arith, zero_at 32 i);
-      left_low = λ p. omega (arith, zero_at 128 p);
-      right_low = λ p. omega (arith, zero_at 128 p);
+      left_low = λ p. omega (arith, ap (λ e. e.left) (no_ends_at 128 p));
+      right_low = λ p. omega (arith, ap (λ e. e.right) (no_ends_at 128 p));
       apart = λ p h _. both_ways (is_present no_constraints p) (none_at 128 p) h;
       mirror = λ p x y _ _ _.
           (ap (λ n. has_bit n x) (zero_at 16384 (128 * p + 64 + y)) ∙ zero_bit x)
@@ -74,13 +80,11 @@ reopened c sizes long =
     record {
       sizes = sizes;
       present = replicate 128 false;
-      left = c.left;
-      right = c.right;
+      ends = c.ends;
       rows = c.rows;
       sizes_long = long;
       present_long = length-replicate 128 false;
-      left_long = c.left_long;
-      right_long = c.right_long;
+      ends_long = c.ends_long;
       rows_long = c.rows_long;
     }
 
@@ -170,19 +174,20 @@ module _ (c c' : Constraints) (d : Domains) (p left right : ℕ) (rows : List �
 -- ---- the rows of a loaded constraint
 
 module _ (c : Constraints) (p left right : ℕ) (old mid new rows turned : List ℕ) (low : p < 128) (shape : Shape c) (was : old ≡ c.rows) (long : length new ≡ 16384) where
+  abbrev these : Ends
+  these = record { left = left; right = right }
+
   -- the constraints with these ends and rows of p
   abbrev pub reloaded : Constraints
   reloaded =
       record {
         sizes = c.sizes;
         present = c.present;
-        left = set c.left p left;
-        right = set c.right p right;
+        ends = set c.ends p these;
         rows = new;
         sizes_long = c.sizes_long;
         present_long = c.present_long;
-        left_long = length-set c.left p left ∙ c.left_long;
-        right_long = length-set c.right p right ∙ c.right_long;
+        ends_long = length-set c.ends p these ∙ c.ends_long;
         rows_long = long;
       }
 
@@ -221,22 +226,27 @@ module _ (c : Constraints) (p left right : ℕ) (old mid new rows turned : List 
         ap (λ n. has_bit n x) far ∙ shape.mirror r x y rl xl yl ∙ ap (λ n. has_bit n y) (sym (row_other (128 * r + x) (outside r x ne (omega arith)))))
         (cases_eq r p)
 
-    ends_low : (ends : List ℕ) (v : ℕ) → ((r : ℕ) → get_or ends r 0 < 32) → v < 32 → length ends ≡ 128 → (r : ℕ) → get_or (set ends p v) r 0 < 32
-    ends_low ends v all h e r =
-        ⊎_elim (λ q. omega (arith, ap (λ k. get_or (set ends p v) k 0) q ∙ get_or-set_same ends p v 0 (omega arith))) (λ ne. omega (arith, get_or-set_other ends p r v 0 ne, all r)) (cases_eq r p)
+    ends_here : get_or (set c.ends p these) p no_ends ≡ these
+    ends_here = get_or-set_same c.ends p these no_ends (omega (arith, c.ends_long))
+
+    ends_other : (r : ℕ) → (r ≡ p → ⊥) → get_or (set c.ends p these) r no_ends ≡ get_or c.ends r no_ends
+    ends_other r ne = get_or-set_other c.ends p r these no_ends ne
+
+    end_low : (of : Ends → ℕ) → ((r : ℕ) → of (get_or c.ends r no_ends) < 32) → of these < 32 → (r : ℕ) → of (get_or (set c.ends p these) r no_ends) < 32
+    end_low of all h r =
+        ⊎_elim (λ q. subst (λ e. of e < 32) (sym (ap (λ k. get_or (set c.ends p these) k no_ends) q ∙ ends_here)) h)
+        (λ ne. subst (λ e. of e < 32) (sym (ends_other r ne)) (all r)) (cases_eq r p)
 
     pub load_shape : left < 32 → right < 32 → (left ≡ right → ⊥) → Shape reloaded
     load_shape ll rl apart =
         record {
           small = shape.small;
-          left_low = ends_low c.left left shape.left_low ll c.left_long;
-          right_low = ends_low c.right right shape.right_low rl c.right_long;
+          left_low = end_low (λ e. e.left) shape.left_low ll;
+          right_low = end_low (λ e. e.right) shape.right_low rl;
           apart = λ r h e.
               ⊎_elim
-              (λ q. apart
-              (sym (get_or-set_same c.left p left 0 (omega (arith, c.left_long))) ∙ subst (λ k. get_or (set c.left p left) k 0 ≡ get_or (set c.right p right) k 0) q e
-              ∙ get_or-set_same c.right p right 0 (omega (arith, c.right_long))))
-              (λ ne. shape.apart r h (sym (get_or-set_other c.left p r left 0 ne) ∙ e ∙ get_or-set_other c.right p r right 0 ne))
+              (λ q. let same = ap (λ k. get_or (set c.ends p these) k no_ends) q ∙ ends_here in apart (sym (ap (λ z. z.left) same) ∙ e ∙ ap (λ z. z.right) same))
+              (λ ne. shape.apart r h (sym (ap (λ z. z.left) (ends_other r ne)) ∙ e ∙ ap (λ z. z.right) (ends_other r ne)))
               (cases_eq r p);
           mirror = mirrored;
         }
@@ -244,11 +254,11 @@ module _ (c : Constraints) (p left right : ℕ) (old mid new rows turned : List 
     pub load_done : Loaded c reloaded p left right rows
     load_done =
         record {
-          left_end = get_or-set_same c.left p left 0 (omega (arith, c.left_long));
-          right_end = get_or-set_same c.right p right 0 (omega (arith, c.right_long));
+          left_end = ap (λ e. e.left) ends_here;
+          right_end = ap (λ e. e.right) ends_here;
           pairs = pair_here;
-          left_others = λ r ne. get_or-set_other c.left p r left 0 ne;
-          right_others = λ r ne. get_or-set_other c.right p r right 0 ne;
+          left_others = λ r ne. ap (λ e. e.left) (ends_other r ne);
+          right_others = λ r ne. ap (λ e. e.right) (ends_other r ne);
           pair_others = pair_other;
           sizes = refl;
           present = refl;

@@ -2,8 +2,10 @@
 use Rattle.std.specs.Prelude.{ℕ, Bool, false, replicate}
 use Rattle.std.proofs.lemmas.List.{length-replicate}
 use Rattle.domains.specs.Zeros.{zeros_wide}
+use Rattle.domains.specs.Model.{no_ends}
 use Rattle.domains.specs.declared.Constraints.{Constraints}
 use Rattle.domains.specs.declared.Domains.{Domains}
+use Rattle.domains.specs.declared.Ends.{Ends}
 use Rattle.domains.specs.declared.Justification.{Justification}
 
 -- no variables, no constraint in, nothing allowed
@@ -12,13 +14,11 @@ no_constraints =
     record {
       sizes = replicate 32 0;
       present = replicate 128 false;
-      left = replicate 128 0;
-      right = replicate 128 0;
+      ends = replicate 128 no_ends;
       rows = replicate 16384 0;
       sizes_long = length-replicate {A = ℕ} 32 0;
       present_long = length-replicate {A = Bool} 128 false;
-      left_long = length-replicate {A = ℕ} 128 0;
-      right_long = length-replicate {A = ℕ} 128 0;
+      ends_long = length-replicate {A = Ends} 128 no_ends;
       rows_long = length-replicate {A = ℕ} 16384 0;
     }
 

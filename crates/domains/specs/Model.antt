@@ -6,6 +6,7 @@ use Rattle.bits.specs.Bits.{has_bit, domains_of}
 use Rattle.justify.specs.Standing.{Standing, Reasons}
 use Rattle.domains.specs.declared.Constraints.{Constraints}
 use Rattle.domains.specs.declared.Domains.{Domains}
+use Rattle.domains.specs.declared.Ends.{Ends}
 use Rattle.domains.specs.declared.Justification.{Justification}
 
 -- the values below the sizes
@@ -15,11 +16,15 @@ within c = within_sizes c.sizes
 abbrev pub is_present : Constraints → ℕ → Bool
 is_present c p = slice_index_or c.present p false
 
+-- the ends of what is not there
+abbrev pub no_ends : Ends
+no_ends = record { left = 0; right = 0 }
+
 abbrev pub left_of : Constraints → ℕ → ℕ
-left_of c p = slice_index c.left p
+left_of c p = (slice_index_or c.ends p no_ends).left
 
 abbrev pub right_of : Constraints → ℕ → ℕ
-right_of c p = slice_index c.right p
+right_of c p = (slice_index_or c.ends p no_ends).right
 
 -- does p let x of its left end stand beside y of its right end
 unfoldable pub pair_at : Constraints → ℕ → ℕ → ℕ → Bool

@@ -20,13 +20,11 @@ with_present c p b =
     record {
       sizes = c.sizes;
       present = slice_set c.present p b;
-      left = c.left;
-      right = c.right;
+      ends = c.ends;
       rows = c.rows;
       sizes_long = c.sizes_long;
       present_long = length-set c.present p b ∙ c.present_long;
-      left_long = c.left_long;
-      right_long = c.right_long;
+      ends_long = c.ends_long;
       rows_long = c.rows_long;
     }
 

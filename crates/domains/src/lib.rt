@@ -19,20 +19,26 @@ pub struct Domains {
 }
 
 // The variables' sizes, and the constraints by their index: whether it is in, its two ends, and its rows of supports. Row 128 * p + x has
-// bit y, and row 128 * p + 64 + y has bit x, where p lets x of its left end stand beside y of its right end. Only what is true of any arrays of
-// these lengths stands in the type: what else is asked of constraints is `Shape`, since anyone may make such a value.
+// bit y, and row 128 * p + 64 + y has bit x, where p lets x of its left end stand beside y of its right end. `present` stands apart from
+// `ends`, since an opening takes every constraint out in one write and leaves the ends, for which a struct of both would need a loop. Only
+// what is true of any arrays of these types stands in the type: what else is asked of constraints is `Shape`, since anyone may make such a value.
 #[derive(Drop)]
 pub struct Constraints {
     pub sizes: [u8; 32],
     pub present: [bool; 128],
-    pub left: [u8; 128],
-    pub right: [u8; 128],
+    pub ends: [Ends; 128],
     pub rows: [u64; 16384],
     pub ghost sizes_long: { length sizes ≡ 32 },
     pub ghost present_long: { length present ≡ 128 },
-    pub ghost left_long: { length left ≡ 128 },
-    pub ghost right_long: { length right ≡ 128 },
+    pub ghost ends_long: { length ends ≡ 128 },
     pub ghost rows_long: { length rows ≡ 16384 },
+}
+
+// The two variables that a constraint ties.
+#[derive(Clone, Copy, PartialEq, Eq, Debug)]
+pub struct Ends {
+    pub left: u8,
+    pub right: u8,
 }
 
 // A constraint seen from one of its ends, with the first of its rows on that side.

@@ -3,7 +3,7 @@ ghost use Rattle.std.specs.Prelude.{◌≡◌, ℕ, ◌^◌, ◌<◌, min, ◌&&
 ghost use Rattle.bits.specs.Bits.{domains_of, has_bit};
 ghost use Rattle.domains.specs.Make.{no_constraints, no_domains};
 
-use crate::{Constraints, Domains, Justification};
+use crate::{Constraints, Domains, Ends, Justification};
 
 // No variables, and no constraint in.
 pub fn no_constraints() -> Constraints
@@ -12,8 +12,7 @@ pub fn no_constraints() -> Constraints
     Constraints {
         sizes: [0; 32],
         present: [false; 128],
-        left: [0; 128],
-        right: [0; 128],
+        ends: [Ends { left: 0, right: 0 }; 128],
         rows: [0; 16384],
     }
 }

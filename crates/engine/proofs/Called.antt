@@ -73,8 +73,7 @@ module _ (c : Constraints) (d d' : Domains) (given sizes : List ℕ) (stands : S
       (record {
         sizes = capped;
         none = none_at 128;
-        left = refl;
-        right = refl;
+        ends = refl;
         rows = refl;
         all = all_shown c d d' sizes stands long (sizes_small sizes given capped) full;
         clock = refl;

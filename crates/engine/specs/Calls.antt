@@ -49,8 +49,7 @@ can_load c p left right = nat_lt p 128 && (not (is_present c p) && (nat_lt left 
 pub record Opened (c c' : Constraints) (d' : Domains) (given : List ℕ) (time : ℕ) : Type 0 where
   pub sizes : (i : ℕ) → slice_index c'.sizes i ≡ cond (nat_lt i 32) (min 64 (slice_index given i)) 0
   pub none : (p : ℕ) → is_present c' p ≡ false
-  pub left : c'.left ≡ c.left
-  pub right : c'.right ≡ c.right
+  pub ends : c'.ends ≡ c.ends
   pub rows : c'.rows ≡ c.rows
   pub all : (i x : ℕ) → shown d' i x ≡ within c' i x
   pub clock : d'.clock ≡ time

@@ -20,7 +20,8 @@ pub(crate) fn ties(c: &Constraints, variable: usize, constraint: usize) -> bool
     if !c.present[constraint] {
         return false;
     }
-    c.left[constraint] as usize == variable || c.right[constraint] as usize == variable
+    let ends = c.ends[constraint];
+    ends.left as usize == variable || ends.right as usize == variable
 }
 
 // Lets the constraint wait, unless it does already.
@@ -104,7 +105,7 @@ pub(crate) fn visit(
     ensures settled { Settled c.now d.new marks.new }
     ensures idle { d.new.clock ≡ d.old.clock → q.new.len ≡ q.old.len }
 {
-    let left = c.left[constraint] as usize;
+    let left = c.ends[constraint].left as usize;
     let Some(there) = arc_at(c, left, constraint) else {
         return;
     };

@@ -11,7 +11,7 @@ ghost use Rattle.engine.specs.Returns.{FreesAmong, Grew, Roomy};
 
 use crate::revise::arc_at;
 use crate::values::put_back;
-use domains::{Constraints, Domains, Returning};
+use domains::{Constraints, Domains, Ends, Returning};
 use queue::Queue;
 
 // Is the value out, with a justification that names the constraint?
@@ -120,10 +120,9 @@ pub(crate) fn release(
     ensures kept { Kept q.old q.new }
 {
     let all = bits::below(64);
-    let left = c.left[constraint] as usize;
-    let right = c.right[constraint] as usize;
-    free_among(c, d, q, left, constraint, all);
-    free_among(c, d, q, right, constraint, all);
+    let Ends { left, right } = c.ends[constraint];
+    free_among(c, d, q, left as usize, constraint, all);
+    free_among(c, d, q, right as usize, constraint, all);
     while let Some(returning) = q.pop() {
         free_beside(c, d, q, returning);
     }

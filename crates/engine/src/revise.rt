@@ -15,8 +15,8 @@ pub(crate) fn arc_at(c: &Constraints, variable: usize, constraint: usize) -> Opt
     if !c.present[constraint] {
         return None;
     }
-    let left = c.left[constraint] as usize;
-    let right = c.right[constraint] as usize;
+    let left = c.ends[constraint].left as usize;
+    let right = c.ends[constraint].right as usize;
     if left == variable {
         Some(Arc {
             constraint,

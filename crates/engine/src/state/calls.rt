@@ -5,7 +5,7 @@ ghost use Rattle.engine.specs.Calls.{Added, Retracted, can_add, can_retract};
 
 use super::Engine;
 use crate::change::{put_in, take_out};
-use domains::{Constraints, Domains, Returning};
+use domains::{Constraints, Domains, Ends, Returning};
 
 // The last time at which a constraint may go in or out: at most 2,048 values go out then.
 const LAST: u32 = 4_294_965_247;
@@ -16,7 +16,8 @@ fn can_add(c: &Constraints, d: &Domains, constraint: usize, room: usize) -> bool
     if constraint >= 128 {
         return false;
     }
-    if c.present[constraint] || c.left[constraint] == c.right[constraint] {
+    let Ends { left, right } = c.ends[constraint];
+    if c.present[constraint] || left == right {
         return false;
     }
     room >= 128 && d.clock <= LAST

@@ -5,7 +5,7 @@ ghost use Rattle.domains.specs.Sound.{Shape};
 ghost use Rattle.engine.specs.Calls.{Loadable, Opened, can_load};
 
 use super::Engine;
-use domains::{Constraints, capped, full, no_constraints, no_domains};
+use domains::{Constraints, Ends, capped, full, no_constraints, no_domains};
 
 fn can_load(c: &Constraints, constraint: usize, left: usize, right: usize) -> bool
     ensures { result ≡ can_load c.now constraint left right }
@@ -38,8 +38,10 @@ fn write(c: &mut Constraints, constraint: usize, left: usize, right: usize, rows
     ensures shape { Shape c.new }
 {
     let turned = supports::turned(rows);
-    c.left[constraint] = left as u8;
-    c.right[constraint] = right as u8;
+    c.ends[constraint] = Ends {
+        left: left as u8,
+        right: right as u8,
+    };
     write_rows(&mut c.rows, 128 * constraint, rows);
     write_rows(&mut c.rows, 128 * constraint + 64, &turned);
 }
