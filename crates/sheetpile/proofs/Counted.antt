@@ -1,24 +1,10 @@
 -- The counts, one step on.
-use Rattle.std.proofs.Common.{◌≡◌, ℕ, ◌+◌, Bool, true, false, cond, ◌&&◌, ◌||◌, eqb, ltb, List, [], ◌∷◌, ◌++◌, sym, refl, ap, ◌∙◌, ⊎_elim, add-one, arith}
+use Rattle.std.proofs.Common.{◌≡◌, ℕ, ◌+◌, Bool, true, false, ◌&&◌, ◌||◌, eqb, ltb, List, [], ◌∷◌, ◌++◌, sym, refl, ap, ◌∙◌, ⊎_elim, add-one, arith}
 use Rattle.std.proofs.lemmas.Bool.Decides.{nat_tests}
-use Rattle.std.proofs.lemmas.Bool.{cond-true, cond-false, true≢false, cases_eq, ne_eqb}
-use Rattle.catalog.specs.Meaning.{Meaning, allowed}
+use Rattle.std.proofs.lemmas.Bool.{true≢false, cases_eq, ne_eqb}
+use Rattle.catalog.specs.Meaning.{Meaning}
 use Rattle.scratch.specs.Named.{named}
 use Rattle.sheetpile.specs.Counts.{beside_count, pair_count, is_inside}
-
-pub beside_none : (m : Meaning) (p x : ℕ) → beside_count m p x 0 ≡ 0
-unfolding beside_count
-beside_none m p x = refl
-
-pub beside_more : (m : Meaning) (p x y : ℕ) → beside_count m p x (y + 1) ≡ beside_count m p x y + cond (allowed m p x y) 1 0
-unfolding beside_count
-beside_more m p x y = ap (beside_count m p x) (add-one y)
-
-pub beside_yes : (m : Meaning) (p x y : ℕ) → true ≡ allowed m p x y → beside_count m p x (y + 1) ≡ beside_count m p x y + 1
-beside_yes m p x y e = beside_more m p x y ∙ ap (λ n. beside_count m p x y + n) (cond-true (allowed m p x y) 1 0 (sym e))
-
-pub beside_no : (m : Meaning) (p x y : ℕ) → false ≡ allowed m p x y → beside_count m p x (y + 1) ≡ beside_count m p x y
-beside_no m p x y e = let k = beside_more m p x y ∙ ap (λ n. beside_count m p x y + n) (cond-false (allowed m p x y) 1 0 (sym e)) in omega arith
 
 pub pairs_none : (m : Meaning) (p size : ℕ) → pair_count m p size 0 ≡ 0
 unfolding pair_count

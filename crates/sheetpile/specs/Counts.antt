@@ -1,11 +1,11 @@
 -- What is counted of a constraint, and which constraints lie between the first variables.
-use Rattle.std.specs.Prelude.{ℕ, zero, suc, ◌+◌, Bool, cond, ◌&&◌, nat_lt}
+use Rattle.std.specs.Prelude.{ℕ, zero, suc, ◌+◌, Bool, ◌&&◌, count_by, nat_lt}
+use Rattle.std.specs.List.{range_with_len}
 use Rattle.catalog.specs.Meaning.{Meaning, allowed}
 
 -- how many values below a size p allows beside x
-unfoldable pub beside_count : Meaning → ℕ → ℕ → ℕ → ℕ
-beside_count m p x zero = 0
-beside_count m p x (suc y) = beside_count m p x y + cond (allowed m p x y) 1 0
+abbrev pub beside_count : Meaning → ℕ → ℕ → ℕ → ℕ
+beside_count m p x size = count_by (λ y. allowed m p x y) (range_with_len 0 size)
 
 -- how many pairs p allows, of left values below the last number and right values below the one before it
 unfoldable pub pair_count : Meaning → ℕ → ℕ → ℕ → ℕ

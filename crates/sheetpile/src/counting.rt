@@ -11,13 +11,7 @@ fn beside<C: Catalog>(catalog: &C, p: usize, x: usize, size: usize) -> usize
     ensures count { result ≡ beside_count (C.Catalog.meaning catalog.now) p x size }
     ensures few { result ≤ size }
 {
-    let mut n = 0;
-    for y in 0..size {
-        if catalog.allows(p, x, y) {
-            n += 1;
-        }
-    }
-    n
+    (0..size).filter(|y| catalog.allows(p, x, *y)).count()
 }
 
 // How many pairs of values below these sizes the constraint p allows.
@@ -26,6 +20,7 @@ pub fn pairs<C: Catalog>(catalog: &C, p: usize, left_size: usize, right_size: us
     requires right { right_size ≤ 64 }
     ensures { result ≡ pair_count (C.Catalog.meaning catalog.now) p right_size left_size }
 {
+    // A loop: with `map` and `sum` the bound that `sum` asks did not close.
     let mut n = 0;
     for x in 0..left_size {
         n += beside(catalog, p, x, right_size);
@@ -47,6 +42,7 @@ fn lies_inside<C: Catalog>(catalog: &C, p: usize, n: usize) -> bool
 pub fn inside<C: Catalog>(heap: Global, catalog: &C, n: usize) -> Result<Vec<usize>, AllocError>
     ensures { IfOk result (λ v. (q : ℕ) → named v.items q ≡ is_inside (C.Catalog.meaning catalog.now) n q) }
 {
+    // A loop: of `filter` and `collect` it did not close which indices the list then names.
     let mut indices = Vec::new(heap);
     for p in 0..catalog.count() {
         if lies_inside(catalog, p, n) {

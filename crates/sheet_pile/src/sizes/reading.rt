@@ -14,6 +14,7 @@ use std::array;
 fn size_of_house(sheet: &Accepted<'_>, h: usize) -> usize
     ensures { result ≡ size_of_house (decode sheet.now.bytes.now).variables h }
 {
+    // A loop: of `map` and `find` over the variables' numbers the proof did not close, since the definition goes through the decoded list.
     for e in 0..sheet.found.variables as usize {
         let variable = variable_at(sheet, e);
         if variable.house as usize == h {
