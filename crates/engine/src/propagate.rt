@@ -1,6 +1,7 @@
 // The queue of constraints is emptied; afterwards each constraint that is in is consistent.
 // The queue and its marks are two parameters: a struct of both was tried, with the queue in it by value and by `&mut`, and the proof did not
-// close, since it is not known then what the lender of the room gets back (the queue itself holds a `&mut [T]`).
+// close, since it is not known then what the lender of the room gets back (the queue itself holds a `&mut [T]`). `Sound` and the time that is left are
+// asked of constraints and domains each time: within a call they hold in part only, and a type for each stage would be no plainer.
 ghost use Rattle.std.specs.Prelude.{◌≡◌, ℕ, ◌+◌, ◌^◌, ◌<◌, ◌≤◌, true, false, ◌≢◌, Some, slice_index_or, slice_set};
 ghost use Rattle.arcs.specs.Family.{Consistent};
 ghost use Rattle.queue.specs.Waiting.{Kept};

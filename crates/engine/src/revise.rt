@@ -46,9 +46,9 @@ pub(crate) fn revise(c: &Constraints, d: &mut Domains, arc: Arc) -> bool
 {
     let supports = d.sets[arc.far];
     let before = d.clock;
-    for x in 0..64 {
+    for (x, row) in c.rows[arc.rows..arc.rows + 64].iter().enumerate() {
         if bits::has(d.sets[arc.near], x) {
-            if supports & c.rows[arc.rows + x] == 0 {
+            if supports & *row == 0 {
                 put_out(d, arc.near, x, arc.constraint);
             }
         }

@@ -1,4 +1,5 @@
-// One value goes out or comes back.
+// One value goes out or comes back. A variable and a value are two parameters, here and in what is put back, as they are in every question: a struct
+// with their bounds would be made anew at each of the four calls and taken apart at once.
 ghost use Rattle.std.specs.Prelude.{◌≡◌, ℕ, ◌+◌, ◌-◌, ◌^◌, ◌<◌, ◌≤◌, true, false, length, ◌≢◌, slice_index};
 ghost use Rattle.justify.specs.Changes.{PutOut, PutBack};
 ghost use Rattle.domains.specs.Model.{shown, standing, total};

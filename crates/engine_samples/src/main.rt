@@ -54,7 +54,8 @@ const NO_VALUE: Returning = Returning {
     time: 0,
 };
 
-// An engine with its two rooms.
+// An engine with its two rooms. They are arrays here and in a run, in the trials lists of full length, in the cases of a network lists of any length with
+// marks: one place for all would be a struct with a part for each.
 #[derive(Drop)]
 struct Bench {
     engine: Engine,

@@ -122,6 +122,7 @@ impl fmt::Display for SheetFault {
     }
 }
 
+// The two conversions are written out: a derived one has no contract, and the check of a sheet says which fault a `?` makes.
 impl From<Counted<RecordFault>> for SheetFault {
     ghost from_gives = { λ x y. y ≡ Record x };
 

@@ -17,6 +17,7 @@ pub enum MovesFault {
     Memory,
 }
 
+// The two conversions are written out: a derived one has no contract, and `moves_of` says which fault a `?` makes.
 impl From<SheetFault> for MovesFault {
     ghost from_gives = { λ x y. y ≡ Sheet x };
 

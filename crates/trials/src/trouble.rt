@@ -34,6 +34,7 @@ pub enum Trouble {
     Kept,
 }
 
+// The conversions are written out: a derived one would keep what it came from, and a trouble is a bare word.
 impl From<AllocError> for Trouble {
     fn from(_: AllocError) -> Trouble {
         Trouble::Memory
