@@ -24,6 +24,7 @@ pub struct Drawn<R> {
     ghost all_constraints: { length constraints ≡ 24 },
 }
 
+// Written out, since a derive is refused on a generic struct with a ghost field over its array.
 impl<R: Copy> Clone for Drawn<R> {
     ghost is_infallible = { λ _. ⊤ };
 

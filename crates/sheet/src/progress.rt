@@ -13,7 +13,8 @@ use std::marker::Model;
 use std::ops::ControlFlow;
 
 // What the records so far have said: how many variables the heading gave (none before it), those that came, how many constraints and moves,
-// and the place after the last record that was no move.
+// and the place after the last record that was no move. `n` is a number and no Option, as in the definition: with 0 nothing but a heading is in turn,
+// by the comparisons that are made anyway.
 #[derive(Drop)]
 pub struct Progress {
     n: usize,

@@ -1,4 +1,4 @@
-// Which variables and constraints a list of calls has brought about, kept by the trials themselves.
+// Which variables and constraints a list of calls has brought about, kept by the trials themselves: they share no code with the solvers that they judge.
 use catalog::Catalog;
 use refusal::Refusal;
 use std::alloc::{AllocError, Global};

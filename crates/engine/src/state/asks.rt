@@ -62,7 +62,8 @@ impl Engine {
         Some(read(&self.domains, variable, value))
     }
 
-    // The lowest of the first n variables that has no value left.
+    // The lowest of the first n variables that has no value left. Not by the crate `wiped`, whose domains are a list: n may pass the 32 variables here,
+    // and past them no value is left.
     pub fn wiped_out(&self, n: usize) -> Option<usize>
         ensures { WipedOut (shown self.now.domains) n result }
     {
