@@ -1,4 +1,5 @@
-// Which variables and constraints a list of calls has brought about, kept by the trials themselves: they share no code with the solvers that they judge.
+// Which variables and constraints a list of calls has brought about, kept by the trials themselves, which share with the solvers that they judge only
+// the catalogs and the sets of bits.
 use catalog::Catalog;
 use refusal::Refusal;
 use std::alloc::{AllocError, Global};
