@@ -68,9 +68,7 @@ impl<R: Relation> Catalog for Drawn<R> {
     }
 
     fn allows(&self, p: usize, x: usize, y: usize) -> bool {
-        let Some(constraint) = self.constraint(p) else {
-            return false;
-        };
-        x < 64 && y < 64 && constraint.relation.allows(x, y)
+        self.constraint(p)
+            .is_some_and(|constraint| constraint.relation.allows(x, y))
     }
 }

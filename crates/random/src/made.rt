@@ -51,9 +51,15 @@ fn table(random: &mut Random, density: Density) -> Table {
 
 // Up to 24 tables on variables below `span`.
 // Not one function with `sums`: of an array of a type parameter the proof that it fits in memory did not close (tried: from_fn, map).
-pub fn tables(random: &mut Random, count: usize, span: usize, density: Density) -> Tables
+pub fn tables<D: Into<Density>>(
+    random: &mut Random,
+    count: usize,
+    span: usize,
+    density: D,
+) -> Tables
     ensures { result.count ≡ count }
 {
+    let density = density.into();
     let constraints = all_ends(random, span).map(|ends| Constraint {
         ends,
         relation: table(random, density),

@@ -17,6 +17,9 @@ impl Relation for Sum {
     ghost allowed = { allowed_by };
 
     fn allows(&self, x: usize, y: usize) -> bool {
+        if x >= 64 || y >= 64 {
+            return false;
+        }
         let second = if self.falling { 63 - y } else { y };
         let total = self.m as usize * x + second;
         self.lo <= total && total <= self.hi

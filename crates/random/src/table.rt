@@ -15,6 +15,6 @@ impl Relation for Table {
     ghost allowed = { λ s x y. in_table s.rows x y };
 
     fn allows(&self, x: usize, y: usize) -> bool {
-        bits::has(self.rows[x], y)
+        x < 64 && y < 64 && bits::has(self.rows[x], y)
     }
 }

@@ -1,20 +1,21 @@
-// The numbers in a sheet's bytes: low byte first.
+// The numbers in a sheet's bytes: low byte first, and 0 for a byte that is not there.
 ghost use Rattle.std.specs.Prelude.{◌≡◌, ℕ, ◌+◌, ◌<◌, ◌≤◌, length, slice_index};
 ghost use Rattle.sheet_format.specs.Numbers.{number2, number4, number8};
 
-// the N bytes from the byte k on
+// the N bytes from the byte k on, with 0 for each that is not there
 fn bytes_at<const N: usize>(bytes: &[u8], k: usize) -> [u8; N]
-    requires { k + N ≤ length bytes.now }
     ensures { (i : ℕ) → i < N → slice_index result i ≡ slice_index bytes.now (k + i) }
 {
     let mut found = [0; N];
-    found.copy_from_slice(&bytes[k..k + N]);
+    if let Some(rest) = bytes.get(k..) {
+        let there = rest.len().min(N);
+        found[..there].copy_from_slice(&rest[..there]);
+    }
     found
 }
 
 // The number in the two bytes from the byte k on.
 pub fn word(bytes: &[u8], k: usize) -> u16
-    requires { k + 2 ≤ length bytes.now }
     ensures { result ≡ number2 bytes.now k }
 {
     u16::from_le_bytes(bytes_at(bytes, k))
@@ -22,7 +23,6 @@ pub fn word(bytes: &[u8], k: usize) -> u16
 
 // The number in the four bytes from the byte k on.
 pub fn long(bytes: &[u8], k: usize) -> u32
-    requires { k + 4 ≤ length bytes.now }
     ensures { result ≡ number4 bytes.now k }
 {
     u32::from_le_bytes(bytes_at(bytes, k))
@@ -30,7 +30,6 @@ pub fn long(bytes: &[u8], k: usize) -> u32
 
 // The number in the eight bytes from the byte k on: a row of a table.
 pub fn row(bytes: &[u8], k: usize) -> u64
-    requires { k + 8 ≤ length bytes.now }
     ensures { result ≡ number8 bytes.now k }
 {
     u64::from_le_bytes(bytes_at(bytes, k))

@@ -16,12 +16,6 @@ bounds-starts-p c =
     let few : c.args.sheet.now.found.constraints ≤ 96 = few_in s.bytes.now s.found (encoded s.bytes.now s.found s.low s.accepted) in
     omega arith
 
-pub word-requires : goal.word-requires
-word-requires c =
-    let s = c.args.sheet.now in
-    let r = (stepped_in s.bytes.now s.found c.loop-p.p c.loop-p.place (encoded s.bytes.now s.found s.low s.accepted) (omega arith) c.loop-p.invariant.1).room in
-    omega arith
-
 pub overflow_add-place : goal.overflow_add-place
 overflow_add-place c =
     let s = c.args.sheet.now in

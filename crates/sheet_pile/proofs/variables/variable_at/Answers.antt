@@ -31,12 +31,6 @@ overflow_add-start-2 c = let k = few c.args.sheet.now c.args.e c.requires in ome
 pub overflow_add-start-3 : goal.overflow_add-start-3
 overflow_add-start-3 c = let k = few c.args.sheet.now c.args.e c.requires in omega arith
 
-pub word-requires : goal.word-requires
-word-requires c = let r = (there c.args.sheet.now c.args.e c.requires).room in omega arith
-
-pub word-requires-2 : goal.word-requires-2
-word-requires-2 c = let r = (there c.args.sheet.now c.args.e c.requires).room in omega arith
-
 pub returns : goal.returns
 returns c =
     let v = there c.args.sheet.now c.args.e c.requires in
