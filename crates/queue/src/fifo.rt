@@ -3,7 +3,7 @@ ghost use Rattle.std.specs.Prelude.{◌≤◌, length};
 mod methods;
 
 // Entries wait in the first `limit` entries of the room, `len` of them from `head` on and, past the limit, from the
-// start again.
+// start again. The room is lent, as fixed memory: nothing that grows or owns its entries can stand in its place.
 #[derive(Drop)]
 pub struct Queue<'a, T> {
     room: &'a mut [T],

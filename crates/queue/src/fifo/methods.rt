@@ -1,4 +1,4 @@
-ghost use Rattle.std.specs.Prelude.{◌≡◌, ◌+◌, ◌-◌, ◌<◌, ◌≤◌, min, nat_lt, [], ◌∷◌, ◌++◌, length, if◌then◌else◌, MatchOption};
+ghost use Rattle.std.specs.Prelude.{◌≡◌, ◌+◌, ◌-◌, ◌<◌, ◌≤◌, min, nat_lt, [], ◌∷◌, ◌++◌, length, if◌then◌else◌, MatchOption, MatchResult, is_ok};
 ghost use Rattle.queue.specs.Waiting.{Kept, Over, waits};
 
 use super::Queue;
@@ -50,20 +50,20 @@ impl<'a, T: Copy> Queue<'a, T> {
         }
     }
 
-    // One more at the end, or `false` and nothing altered where there is no room.
-    pub fn push(&mut self, entry: T) -> bool
-        ensures fits { result ≡ nat_lt self.old.len self.old.limit }
-        ensures waiting { waits self.new ≡ (if result then waits self.old ++ (entry ∷ []) else waits self.old) }
-        ensures len { self.new.len ≡ (if result then self.old.len + 1 else self.old.len) }
+    // One more at the end, or the entry back and nothing altered where there is no room.
+    pub fn push(&mut self, entry: T) -> Result<(), T>
+        ensures fits { is_ok result ≡ nat_lt self.old.len self.old.limit }
+        ensures waiting { MatchResult result (λ _. waits self.new ≡ waits self.old ++ (entry ∷ [])) (λ back. (back ≡ entry) × (waits self.new ≡ waits self.old)) }
+        ensures len { MatchResult result (λ _. self.new.len ≡ self.old.len + 1) (λ _. self.new.len ≡ self.old.len) }
         ensures kept { Kept self.old self.new }
     {
         if self.len >= self.limit {
-            return false;
+            return Err(entry);
         }
         let place = tail(self.limit, self.head, self.len);
         self.room[place] = entry;
         self.len += 1;
-        true
+        Ok(())
     }
 
     // The one that has waited longest.
