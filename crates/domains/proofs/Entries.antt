@@ -7,20 +7,29 @@ use Rattle.bits.specs.Bits.{bit_at, has_bit, domains_of}
 use Rattle.bits.proofs.Bitwise.{bit_cases}
 use Rattle.bits.proofs.Edits.{ones_inside}
 use Rattle.domains.specs.declared.Justification.{Justification}
-use Rattle.domains.specs.Model.{entry, reasons_of, times_of, total}
+use Rattle.domains.specs.Model.{entry, no_justification, total}
 
-pub entry_same : (xs : List ℕ) (i x v : ℕ) → x < 64 → 64 * i + x < length xs → entry (set xs (64 * i + x) v) i x ≡ v
-unfolding entry
-entry_same xs i x v h l = cond-true (ltb x 64) _ 0 (lt-ltb x 64 h) ∙ get_or-set_same xs (64 * i + x) v 0 l
+pub entry_same : (why : List (List Justification)) (i x : ℕ) (j : Justification) → i < length why → x < length (get_or why i []) → entry (set why i (set (get_or why i []) x j)) i x ≡ j
+entry_same why i x j l h =
+    ap (λ js. get_or js x no_justification) (get_or-set_same why i (set (get_or why i []) x j) [] l) ∙ get_or-set_same (get_or why i []) x j no_justification h
 
-pub entry_other : (xs : List ℕ) (i x v j y : ℕ) → x < 64 → ((i ≡ j) × (x ≡ y) → ⊥) → entry (set xs (64 * i + x) v) j y ≡ entry xs j y
-unfolding entry
-entry_other xs i x v j y h ne =
+pub entry_other : (why : List (List Justification)) (i x : ℕ) (j : Justification) (k y : ℕ) → i < length why → ((i ≡ k) × (x ≡ y) → ⊥) → entry (set why i (set (get_or why i []) x j)) k y ≡ entry why k y
+entry_other why i x j k y l ne =
+    let new : List (List Justification) = set why i (set (get_or why i []) x j) in
     ⊎_elim
-    (λ l. let apart : 64 * j + y ≢ 64 * i + x = λ e. ne (omega arith, omega arith) in
-    ap (λ n. cond (ltb y 64) n 0) (get_or-set_other xs (64 * i + x) (64 * j + y) v 0 apart))
-    (λ l. cond-false (ltb y 64) _ 0 (le-ltb y 64 l) ∙ sym (cond-false (ltb y 64) _ 0 (le-ltb y 64 l)))
-    (cases_lt y 64)
+    (λ e. subst (λ m. entry new m y ≡ entry why m y) (sym e)
+    (ap (λ js. get_or js y no_justification) (get_or-set_same why i (set (get_or why i []) x j) [] l)
+    ∙ get_or-set_other (get_or why i []) x y j no_justification (λ q. ne (sym e, sym q))))
+    (λ other. ap (λ js. get_or js y no_justification) (get_or-set_other why i k (set (get_or why i []) x j) [] other))
+    (cases_eq k i)
+
+-- where each of n lists is as long as the new one, each of them is after it is put in
+pub each_set : {T : Type 0} (xss : List (List T)) (i : ℕ) (xs : List T) (n m : ℕ) → length xss ≡ n → length xs ≡ m → ((k : ℕ) → k < n → length (get_or xss k []) ≡ m) → (k : ℕ) → k < n → length (get_or (set xss i xs) k []) ≡ m
+each_set xss i xs n m long here each k h =
+    ⊎_elim
+    (λ e. subst (λ j. length (get_or (set xss i xs) j []) ≡ m) (sym e) (ap length (get_or-set_same xss i xs [] (omega arith)) ∙ here))
+    (λ ne. ap length (get_or-set_other xss i k xs [] ne) ∙ each k h)
+    (cases_eq k i)
 
 -- a set in the place of another
 pub total-set : (ds : List ℕ) (i d : ℕ) → i < length ds → total (set ds i d) + ones (get_or ds i 0) ≡ total ds + ones d
@@ -32,20 +41,6 @@ total-set (e ∷ ds) (suc i) d h = omega (arith, total-set ds i d (omega arith))
 pub total_few : (ds : List ℕ) → ((i : ℕ) → get_or ds i 0 < 2 ^ 64) → total ds ≤ 64 * length ds
 total_few [] h = omega arith
 total_few (d ∷ ds) h = omega (arith, ones-le 64 d (h 0), total_few ds (λ i. h (suc i)))
-
--- what stands in the array
-pub entry_read : (xs : List ℕ) (i x : ℕ) → x < 64 → entry xs i x ≡ get_or xs (64 * i + x) 0
-unfolding entry
-entry_read xs i x h = cond-true (ltb x 64) _ 0 (lt-ltb x 64 h)
-
--- what stands in an array of justifications
-pub reason_read : (why : List Justification) (i x : ℕ) → x < 64 → 64 * i + x < length why → entry (reasons_of why) i x ≡ (get_or why (64 * i + x) (record { constraint = 0; time = 0 })).constraint
-reason_read why i x h l =
-    entry_read (reasons_of why) i x h ∙ get_or-map (λ (j : Justification). j.constraint) why (64 * i + x) (record { constraint = 0; time = 0 }) 0 l
-
-pub time_read : (why : List Justification) (i x : ℕ) → x < 64 → 64 * i + x < length why → entry (times_of why) i x ≡ (get_or why (64 * i + x) (record { constraint = 0; time = 0 })).time
-time_read why i x h l =
-    entry_read (times_of why) i x h ∙ get_or-map (λ (j : Justification). j.time) why (64 * i + x) (record { constraint = 0; time = 0 }) 0 l
 
 total-append : (xs ys : List ℕ) → total (xs ++ ys) ≡ total xs + total ys
 total-append [] ys = omega arith
@@ -78,6 +73,11 @@ total_inside (a ∷ us) (b ∷ bs) e wa wb h =
 pub zero_at : (n k : ℕ) → get_or {A = ℕ} (replicate n 0) k 0 ≡ 0
 zero_at n k =
     ⊎_elim (λ l. get_or-replicate n k 0 0 l) (λ g. get_or_past (replicate n 0) k 0 (omega (arith, length-replicate {A = ℕ} n 0))) (cases_lt k n)
+
+pub zero_row : (n m k x : ℕ) → get_or {A = ℕ} (get_or (replicate n (replicate m 0)) k []) x 0 ≡ 0
+zero_row n m k x =
+    ⊎_elim (λ l. ap (λ xs. get_or xs x 0) (get_or-replicate n k (replicate m 0) [] l) ∙ zero_at m x)
+    (λ g. ap (λ xs. get_or xs x 0) (get_or_past (replicate n (replicate m 0)) k [] (omega (arith, length-replicate n (replicate {A = ℕ} m 0))))) (cases_lt k n)
 
 -- one more entry is written
 pub set_step : (xs : List ℕ) (i v : ℕ) (P : ℕ → ℕ → Type 0) → i < length xs → ((k : ℕ) → k < i → P k (get_or xs k 0)) → P i v → (k : ℕ) → k < i + 1 → P k (get_or (set xs i v) k 0)

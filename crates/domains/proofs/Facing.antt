@@ -4,7 +4,7 @@ use Rattle.std.proofs.lemmas.Bool.{and_from, and_parts, or_cases, eqb-true, or_l
 use Rattle.bits.specs.Bits.{has_bit}
 use Rattle.domains.specs.declared.Arc.{Arc}
 use Rattle.domains.specs.declared.Constraints.{Constraints}
-use Rattle.domains.specs.Model.{is_present, left_of, right_of, pair_at, arcs_of}
+use Rattle.domains.specs.Model.{is_present, left_of, right_of, row, pair_at, arcs_of}
 use Rattle.domains.specs.Sound.{Shape, Facing}
 
 module _ (c : Constraints) (p : ℕ) (shape : Shape c) (low : p < 128) (present : is_present c p ≡ true) where
@@ -27,9 +27,9 @@ module _ (c : Constraints) (p : ℕ) (shape : Shape c) (low : p < 128) (present 
   far_right : (arcs_of c).far (right_of c p) p ≡ left_of c p
   far_right = cond-false (eqb (left_of c p) (right_of c p)) _ _ private_apart
 
-  pair_row : (x y : ℕ) → x < 64 → pair_at c p x y ≡ has_bit (get_or c.rows (128 * p + x) 0) y
+  pair_row : (x y : ℕ) → x < 64 → pair_at c p x y ≡ has_bit (row c (2 * p) x) y
   unfolding pair_at
-  pair_row x y h = ap (λ b. b && has_bit (get_or c.rows (128 * p + x) 0) y) (lt-ltb x 64 h)
+  pair_row x y h = ap (λ b. b && has_bit (row c (2 * p) x) y) (lt-ltb x 64 h)
 
   fits_left : (x y : ℕ) → (arcs_of c).fits (left_of c p) p x y ≡ pair_at c p x y
   fits_left x y = cond-true (eqb (left_of c p) (left_of c p)) _ _ (eq-eqb (left_of c p) (left_of c p) refl)
@@ -44,7 +44,7 @@ module _ (c : Constraints) (p : ℕ) (shape : Shape c) (low : p < 128) (present 
       ⊎_elim (λ e. inl (sym (eqb-true (left_of c p) i e))) (λ e. inr (sym (eqb-true (right_of c p) i e)))
       (or_cases (eqb (left_of c p) i) (eqb (right_of c p) i) (and_parts (is_present c p) _ a).1)
 
-  pub facing_left : Facing c (record { constraint = p; near = left_of c p; far = right_of c p; rows = 128 * p })
+  pub facing_left : Facing c (record { constraint = p; near = left_of c p; far = right_of c p; rows = 2 * p })
   facing_left =
       record {
         constraint_low = low;
@@ -61,7 +61,7 @@ module _ (c : Constraints) (p : ℕ) (shape : Shape c) (low : p < 128) (present 
         turned = λ x y h _. fits_right y x ∙ pair_row x y h;
       }
 
-  pub facing_right : Facing c (record { constraint = p; near = right_of c p; far = left_of c p; rows = 128 * p + 64 })
+  pub facing_right : Facing c (record { constraint = p; near = right_of c p; far = left_of c p; rows = 2 * p + 1 })
   facing_right =
       record {
         constraint_low = low;

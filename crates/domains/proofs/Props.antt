@@ -13,7 +13,7 @@ use Rattle.justify.specs.Standing.{Standing, Accounts, Timed}
 use Rattle.justify.proofs.Reach.{justified_largest}
 use Rattle.domains.specs.declared.Constraints.{Constraints}
 use Rattle.domains.specs.declared.Domains.{Domains}
-use Rattle.domains.specs.Model.{within, arcs_of, shown, standing}
+use Rattle.domains.specs.Model.{within, row, arcs_of, shown, standing}
 use Rattle.domains.specs.Sound.{Shape, Sound}
 use Rattle.domains.specs.Stands.{Stands}
 use Rattle.domains.proofs.Facing.{Seen, seen}
@@ -61,7 +61,7 @@ find_support : (c : Constraints) (d : Domains) → Shape c → (i r x : ℕ) →
 find_support c d shape i r x on low some =
     let s : Seen c i r = seen c i r shape on in
     let P : ℕ → ℕ → Type 0 = λ j p. Support (arcs_of c) (shown d) j p x in
-    let n : ℕ = bit_and (get_or d.sets s.arc.far 0) (get_or c.rows (s.arc.rows + x) 0) in
+    let n : ℕ = bit_and (get_or d.sets s.arc.far 0) (row c s.arc.rows x) in
     subst₂ P s.near s.constraint
     (⊎_elim
     (λ z. absurd (some (λ h. support_no c d s.arc s.facing x low z (subst₂ P (sym s.near) (sym s.constraint) h))))

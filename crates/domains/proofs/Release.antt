@@ -7,7 +7,7 @@ use Rattle.domains.specs.declared.Constraints.{Constraints}
 use Rattle.domains.specs.declared.Domains.{Domains}
 use Rattle.domains.specs.declared.Justification.{Justification}
 use Rattle.domains.specs.declared.Returning.{Returning}
-use Rattle.domains.specs.Model.{within, arcs_of, shown, standing, entry, reason_is, reasons_of, times_of}
+use Rattle.domains.specs.Model.{within, arcs_of, shown, standing, entry, reason_is}
 use Rattle.domains.specs.Sound.{Sound}
 use Rattle.domains.specs.Releasing.{Stands, Low, Back, Followed, Releasing}
 
@@ -146,7 +146,7 @@ module _ (c : Constraints) (p : ℕ) (d d' : Domains) (r : Releasing c p d d' []
         kept = λ i x o g.
             record {
               shown = g ∙ sym o.gone;
-              reason = ap (λ (j : List Justification). entry (reasons_of j) i x) r.why;
-              time = ap (λ (j : List Justification). entry (times_of j) i x) r.why;
+              reason = ap (λ (why : List (List Justification)). (entry why i x).constraint) r.why;
+              time = ap (λ (why : List (List Justification)). (entry why i x).time) r.why;
             };
       }

@@ -13,7 +13,7 @@ use Rattle.justify.proofs.Keeps.{same_refl, same_trans, put_out_keeps}
 use Rattle.domains.specs.declared.Arc.{Arc}
 use Rattle.domains.specs.declared.Constraints.{Constraints}
 use Rattle.domains.specs.declared.Domains.{Domains}
-use Rattle.domains.specs.Model.{within, arcs_of, shown, standing, total}
+use Rattle.domains.specs.Model.{within, arcs_of, shown, standing, total, row}
 use Rattle.domains.specs.Sound.{Sound, Went, Facing, Revising}
 use Rattle.domains.proofs.Values.{out_total}
 
@@ -61,10 +61,10 @@ module _ (c : Constraints) (d d' : Domains) (i x p : ℕ) (sound : Sound c d) (p
 -- ---- supports by bits
 
 module _ (c : Constraints) (d : Domains) (a : Arc) (facing : Facing c a) (x : ℕ) (low : x < 64) where
-  pub support_yes : 0 < bit_and (get_or d.sets a.far 0) (get_or c.rows (a.rows + x) 0) → Support (arcs_of c) (shown d) a.near a.constraint x
+  pub support_yes : 0 < bit_and (get_or d.sets a.far 0) (row c a.rows x) → Support (arcs_of c) (shown d) a.near a.constraint x
   support_yes h =
-      let s : (y : ℕ) × (has_bit (get_or d.sets a.far 0) y ≡ true) × (has_bit (get_or c.rows (a.rows + x) 0) y ≡ true) =
-      share 64 (get_or d.sets a.far 0) (get_or c.rows (a.rows + x) 0) (d.wide a.far) h
+      let s : (y : ℕ) × (has_bit (get_or d.sets a.far 0) y ≡ true) × (has_bit (row c a.rows x) y ≡ true) =
+      share 64 (get_or d.sets a.far 0) (row c a.rows x) (d.wide a.far) h
       in
       record {
         value = s.0;
@@ -72,13 +72,13 @@ module _ (c : Constraints) (d : Domains) (a : Arc) (facing : Facing c a) (x : �
         beside = facing.fits x s.0 low (has_low 64 (get_or d.sets a.far 0) s.0 (d.wide a.far) s.1) ∙ s.2;
       }
 
-  pub support_no : bit_and (get_or d.sets a.far 0) (get_or c.rows (a.rows + x) 0) ≡ 0 → Support (arcs_of c) (shown d) a.near a.constraint x → ⊥
+  pub support_no : bit_and (get_or d.sets a.far 0) (row c a.rows x) ≡ 0 → Support (arcs_of c) (shown d) a.near a.constraint x → ⊥
   support_no e s =
       let h : shown d a.far s.value ≡ true = ap (λ j. shown d j s.value) (sym facing.far) ∙ s.shown in
-      let f : has_bit (get_or c.rows (a.rows + x) 0) s.value ≡ true =
+      let f : has_bit (row c a.rows x) s.value ≡ true =
       sym (facing.fits x s.value low (has_low 64 (get_or d.sets a.far 0) s.value (d.wide a.far) h)) ∙ s.beside
       in
-      let g : 0 < bit_and (get_or d.sets a.far 0) (get_or c.rows (a.rows + x) 0) = share_positive (get_or d.sets a.far 0) (get_or c.rows (a.rows + x) 0) s.value h f in
+      let g : 0 < bit_and (get_or d.sets a.far 0) (row c a.rows x) = share_positive (get_or d.sets a.far 0) (row c a.rows x) s.value h f in
       omega arith
 
 -- ---- the turns

@@ -1,5 +1,5 @@
 -- To begin with nothing is in and everything is shown; and a constraint that is not in may have any ends and rows.
-use Rattle.std.proofs.Common.{suc, zero, ◌≡◌, ℕ, ◌+◌, ◌*◌, ◌<◌, ◌≤◌, min, true, false, cond, ◌&&◌, ◌||◌, eqb, ltb, ◌⊎◌, List, length, get_or, set, replicate, sym, refl, ap, ◌∙◌, subst, inl, inr, ⊎_elim, arith}
+use Rattle.std.proofs.Common.{suc, zero, ◌≡◌, ℕ, ◌+◌, ◌*◌, ◌<◌, ◌≤◌, min, true, false, cond, ◌&&◌, ◌||◌, eqb, ltb, ◌⊎◌, List, [], length, get_or, set, replicate, sym, refl, ap, ◌∙◌, subst, inl, inr, ⊎_elim, arith}
 use Rattle.std.proofs.lemmas.List.{get_or_past, get_or-replicate, length-replicate, get_or-set_same, get_or-set_other, length-set}
 use Rattle.std.proofs.lemmas.Bool.{cases_lt, cases_eq, cases_Bool, both_ways, lt-ltb, le-ltb, and_from}
 use Rattle.arcs.specs.Family.{Support, Inside, within_sizes}
@@ -11,11 +11,11 @@ use Rattle.justify.proofs.Keeps.{more_keeps}
 use Rattle.domains.specs.declared.Constraints.{Constraints}
 use Rattle.domains.specs.declared.Domains.{Domains}
 use Rattle.domains.specs.declared.Ends.{Ends}
-use Rattle.domains.specs.Model.{no_ends, within, is_present, left_of, right_of, pair_at, arcs_of, shown, standing}
+use Rattle.domains.specs.Model.{no_ends, within, is_present, left_of, right_of, row, pair_at, arcs_of, shown, standing}
 use Rattle.domains.specs.Sound.{Shape}
 use Rattle.domains.specs.Stands.{Stands, Loaded}
 use Rattle.domains.specs.Make.{no_constraints, no_domains}
-use Rattle.domains.proofs.Entries.{zero_at}
+use Rattle.domains.proofs.Entries.{each_set, zero_at, zero_row}
 use Rattle.domains.proofs.Facing.{on_present}
 
 pub none_at : (n p : ℕ) → get_or (replicate n false) p false ≡ false
@@ -57,8 +57,8 @@ stands_none =
       right_low = λ p. omega (arith, ap (λ e. e.right) (no_ends_at 128 p));
       apart = λ p h _. both_ways (is_present no_constraints p) (none_at 128 p) h;
       mirror = λ p x y _ _ _.
-          (ap (λ n. has_bit n x) (zero_at 16384 (128 * p + 64 + y)) ∙ zero_bit x)
-          ∙ sym (ap (λ n. has_bit n y) (zero_at 16384 (128 * p + x)) ∙ zero_bit y);
+          (ap (λ n. has_bit n x) (zero_row 256 64 (2 * p + 1) y) ∙ zero_bit x)
+          ∙ sym (ap (λ n. has_bit n y) (zero_row 256 64 (2 * p) x) ∙ zero_bit y);
     })
     (none_at 128)
     (λ i x.
@@ -86,6 +86,7 @@ reopened c sizes long =
       present_long = length-replicate 128 false;
       ends_long = c.ends_long;
       rows_long = c.rows_long;
+      each_row_long = c.each_row_long;
     }
 
 pub sizes_small : (sizes given : List ℕ) → ((i : ℕ) → get_or sizes i 0 ≡ cond (ltb i 32) (min 64 (get_or given i 0)) 0) → (i : ℕ) → get_or sizes i 0 ≤ 64
@@ -173,9 +174,16 @@ module _ (c c' : Constraints) (d : Domains) (p left right : ℕ) (rows : List �
 
 -- ---- the rows of a loaded constraint
 
-module _ (c : Constraints) (p left right : ℕ) (old mid new rows turned : List ℕ) (low : p < 128) (shape : Shape c) (was : old ≡ c.rows) (long : length new ≡ 16384) where
+module _ (c : Constraints) (p left right : ℕ) (rows turned : List ℕ) (low : p < 128) (shape : Shape c) (full : length rows ≡ 64) (full_turned : length turned ≡ 64) where
   abbrev these : Ends
   these = record { left = left; right = right }
+
+  -- the rows with those of p, on its left side and then on its right one
+  abbrev half : List (List ℕ)
+  half = set c.rows (2 * p) rows
+
+  abbrev new : List (List ℕ)
+  new = set half (2 * p + 1) turned
 
   -- the constraints with these ends and rows of p
   abbrev pub reloaded : Constraints
@@ -188,42 +196,40 @@ module _ (c : Constraints) (p left right : ℕ) (old mid new rows turned : List 
         sizes_long = c.sizes_long;
         present_long = c.present_long;
         ends_long = length-set c.ends p these ∙ c.ends_long;
-        rows_long = long;
+        rows_long = length-set half (2 * p + 1) turned ∙ length-set c.rows (2 * p) rows ∙ c.rows_long;
+        each_row_long = each_set half (2 * p + 1) turned 256 64 (length-set c.rows (2 * p) rows ∙ c.rows_long) full_turned
+            (each_set c.rows (2 * p) rows 256 64 c.rows_long full c.each_row_long);
       }
 
-  module _ (first : (k : ℕ) → k < 64 → get_or mid (128 * p + k) 0 ≡ get_or rows k 0) (before : (j : ℕ) → (j < 128 * p) ⊎ (128 * p + 64 ≤ j) → get_or mid j 0 ≡ get_or old j 0) (second : (k : ℕ) → k < 64 → get_or new (128 * p + 64 + k) 0 ≡ get_or turned k 0) (after : (j : ℕ) → (j < 128 * p + 64) ⊎ (128 * p + 64 + 64 ≤ j) → get_or new j 0 ≡ get_or mid j 0) (turn : (x y : ℕ) → x < 64 → y < 64 → has_bit (get_or turned y 0) x ≡ has_bit (get_or rows x 0) y) where
-    row_here : (x : ℕ) → x < 64 → get_or new (128 * p + x) 0 ≡ get_or rows x 0
-    row_here x h = after (128 * p + x) (inl (omega arith)) ∙ first x h
+  module _ (turn : (x y : ℕ) → x < 64 → y < 64 → has_bit (get_or turned y 0) x ≡ has_bit (get_or rows x 0) y) where
+    left_side : get_or new (2 * p) [] ≡ rows
+    left_side =
+        get_or-set_other half (2 * p + 1) (2 * p) turned [] (λ e. omega arith)
+        ∙ get_or-set_same c.rows (2 * p) rows [] (omega (arith, c.rows_long))
 
-    row_other : (j : ℕ) → (j < 128 * p) ⊎ (128 * p + 128 ≤ j) → get_or new j 0 ≡ get_or c.rows j 0
-    row_other j (inl h) = after j (inl (omega arith)) ∙ before j (inl h) ∙ ap (λ l. get_or l j 0) was
-    row_other j (inr h) = after j (inr (omega arith)) ∙ before j (inr (omega arith)) ∙ ap (λ l. get_or l j 0) was
+    right_side : get_or new (2 * p + 1) [] ≡ turned
+    right_side = get_or-set_same half (2 * p + 1) turned [] (omega (arith, length-set c.rows (2 * p) rows, c.rows_long))
 
-    outside : (r k : ℕ) → (r ≡ p → ⊥) → k < 128 → (128 * r + k < 128 * p) ⊎ (128 * p + 128 ≤ 128 * r + k)
-    outside r k ne h = ⊎_elim (λ l. inl (omega arith)) (λ g. inr (omega arith)) (cases_lt r p)
+    side_other : (s : ℕ) → (s ≡ 2 * p → ⊥) → (s ≡ 2 * p + 1 → ⊥) → get_or new s [] ≡ get_or c.rows s []
+    side_other s ne ne' = get_or-set_other half (2 * p + 1) s turned [] ne' ∙ get_or-set_other c.rows (2 * p) s rows [] ne
 
     pair_here : (x y : ℕ) → x < 64 → pair_at reloaded p x y ≡ has_bit (get_or rows x 0) y
     unfolding pair_at
-    pair_here x y h = ap (λ b. b && has_bit (get_or new (128 * p + x) 0) y) (lt-ltb x 64 h) ∙ ap (λ n. has_bit n y) (row_here x h)
+    pair_here x y h = ap (λ b. b && has_bit (row reloaded (2 * p) x) y) (lt-ltb x 64 h) ∙ ap (λ r. has_bit (get_or r x 0) y) left_side
 
     pair_other : (r x y : ℕ) → (r ≡ p → ⊥) → pair_at reloaded r x y ≡ pair_at c r x y
     unfolding pair_at
-    pair_other r x y ne =
-        ⊎_elim
-        (λ h. ap (λ n. ltb x 64 && has_bit n y) (row_other (128 * r + x) (outside r x ne (omega arith))))
-        (λ g. ap (λ b. b && has_bit (get_or new (128 * r + x) 0) y) (le-ltb x 64 g) ∙ sym (ap (λ b. b && has_bit (get_or c.rows (128 * r + x) 0) y) (le-ltb x 64 g)))
-        (cases_lt x 64)
+    pair_other r x y ne = ap (λ k. ltb x 64 && has_bit (get_or k x 0) y) (side_other (2 * r) (λ e. ne (omega arith)) (λ e. omega arith))
 
-    mirrored : (r x y : ℕ) → r < 128 → x < 64 → y < 64 → has_bit (get_or new (128 * r + 64 + y) 0) x ≡ has_bit (get_or new (128 * r + x) 0) y
+    mirrored : (r x y : ℕ) → r < 128 → x < 64 → y < 64 → has_bit (row reloaded (2 * r + 1) y) x ≡ has_bit (row reloaded (2 * r) x) y
     mirrored r x y rl xl yl =
         ⊎_elim
-        (λ e. subst (λ k. has_bit (get_or new (128 * k + 64 + y) 0) x ≡ has_bit (get_or new (128 * k + x) 0) y) (sym e)
-        (ap (λ n. has_bit n x) (second y yl) ∙ turn x y xl yl ∙ ap (λ n. has_bit n y) (sym (row_here x xl))))
+        (λ e. subst (λ k. has_bit (row reloaded (2 * k + 1) y) x ≡ has_bit (row reloaded (2 * k) x) y) (sym e)
+        (ap (λ k. has_bit (get_or k y 0) x) right_side ∙ turn x y xl yl ∙ ap (λ k. has_bit (get_or k x 0) y) (sym left_side)))
         (λ ne.
-        let far : get_or new (128 * r + 64 + y) 0 ≡ get_or c.rows (128 * r + 64 + y) 0 =
-        row_other (128 * r + 64 + y) (⊎_elim (λ l. inl (omega arith)) (λ g. inr (omega arith)) (cases_lt r p))
-        in
-        ap (λ n. has_bit n x) far ∙ shape.mirror r x y rl xl yl ∙ ap (λ n. has_bit n y) (sym (row_other (128 * r + x) (outside r x ne (omega arith)))))
+        ap (λ k. has_bit (get_or k y 0) x) (side_other (2 * r + 1) (λ e. omega arith) (λ e. ne (omega arith)))
+        ∙ shape.mirror r x y rl xl yl
+        ∙ ap (λ k. has_bit (get_or k x 0) y) (sym (side_other (2 * r) (λ e. ne (omega arith)) (λ e. omega arith))))
         (cases_eq r p)
 
     ends_here : get_or (set c.ends p these) p no_ends ≡ these

@@ -1,10 +1,10 @@
 -- One value goes out or comes back: what is written into the plain data is what the words say.
-use Rattle.std.proofs.Common.{◌≡◌, ℕ, ◌+◌, ◌*◌, ◌%◌, ◌^◌, ◌<◌, Bool, true, false, not, ◌&&◌, ◌||◌, eqb, List, length, get_or, set, sym, refl, ap, ◌∙◌, ⊎_elim, arith}
+use Rattle.std.proofs.Common.{◌≡◌, ℕ, ◌+◌, ◌*◌, ◌%◌, ◌^◌, ◌<◌, Bool, true, false, not, ◌&&◌, ◌||◌, eqb, List, [], length, get_or, set, sym, refl, ap, ◌∙◌, ⊎_elim, arith}
 use lib.Bits.{bit_xor, bit_or, xor_lt, or_lt}
 use lib.Count.{ones}
 use lib.Pow.{pow-lt}
 use Rattle.std.proofs.lemmas.Nat.{one_shl}
-use Rattle.std.proofs.lemmas.List.{get_or-set_same, get_or-set_other, length-map, length-set, map-set}
+use Rattle.std.proofs.lemmas.List.{get_or-set_same, get_or-set_other, length-set}
 use Rattle.std.proofs.lemmas.Bool.{cases_eq, eq-eqb, ne_eqb, eqb-true, eqb-false}
 use Rattle.bits.specs.Bits.{bit_at, has_bit, domains_of}
 use Rattle.bits.proofs.Bitwise.{bit_low}
@@ -12,8 +12,8 @@ use Rattle.bits.proofs.Edits.{has_cleared, has_added, ones_cleared, ones_added}
 use Rattle.justify.specs.Changes.{PutOut, PutBack}
 use Rattle.domains.specs.declared.Domains.{Domains}
 use Rattle.domains.specs.declared.Justification.{Justification}
-use Rattle.domains.specs.Model.{entry, reasons_of, shown, standing, times_of, total}
-use Rattle.domains.proofs.Entries.{entry_same, entry_other, total-set}
+use Rattle.domains.specs.Model.{entry, shown, standing, total}
+use Rattle.domains.proofs.Entries.{each_set, entry_same, entry_other, total-set}
 
 and_no : (b : Bool) → (b && not true) ≡ false
 and_no true = refl
@@ -59,10 +59,12 @@ module _ (d : Domains) (i x : ℕ) (low : i < 32) (fits : x < 64) where
   abbrev pub without : ℕ → Domains
   without p = record {
     sets = set d.sets i (bit_xor (get_or d.sets i 0) ((1 * 2 ^ x) % 2 ^ 64));
-    why = set d.why (64 * i + x) (record { constraint = p; time = d.clock });
+    why = set d.why i (set (get_or d.why i []) x (record { constraint = p; time = d.clock }));
     clock = d.clock + 1;
     sets_long = length-set d.sets i _ ∙ d.sets_long;
-    why_long = length-set d.why (64 * i + x) (record { constraint = p; time = d.clock }) ∙ d.why_long;
+    why_long = length-set d.why i _ ∙ d.why_long;
+    each_why_long = each_set d.why i (set (get_or d.why i []) x (record { constraint = p; time = d.clock })) 32 64 d.why_long
+        (length-set (get_or d.why i []) x _ ∙ d.each_why_long i low) d.each_why_long;
     wide = sets_wide (bit_xor (get_or d.sets i 0) ((1 * 2 ^ x) % 2 ^ 64)) (rw (one_shl x 64 fits) (xor_lt 64 (get_or d.sets i 0) (2 ^ x) (d.wide i) (pow-lt fits)));
   }
 
@@ -73,27 +75,28 @@ module _ (d : Domains) (i x : ℕ) (low : i < 32) (fits : x < 64) where
     clock = d.clock;
     sets_long = length-set d.sets i _ ∙ d.sets_long;
     why_long = d.why_long;
+    each_why_long = d.each_why_long;
     wide = sets_wide (bit_or (get_or d.sets i 0) ((1 * 2 ^ x) % 2 ^ 64)) (rw (one_shl x 64 fits) (or_lt 64 (get_or d.sets i 0) (2 ^ x) (d.wide i) (pow-lt fits)));
   }
 
-  new_reasons : (p : ℕ) → reasons_of (without p).why ≡ set (reasons_of d.why) (64 * i + x) p
-  new_reasons p = map-set (λ (j : Justification). j.constraint) d.why (64 * i + x) (record { constraint = p; time = d.clock })
+  written : (p : ℕ) → entry (without p).why i x ≡ record { constraint = p; time = d.clock }
+  written p = entry_same d.why i x (record { constraint = p; time = d.clock }) (omega (arith, d.why_long)) (omega (arith, d.each_why_long i low))
 
-  new_times : (p : ℕ) → times_of (without p).why ≡ set (times_of d.why) (64 * i + x) d.clock
-  new_times p = map-set (λ (j : Justification). j.time) d.why (64 * i + x) (record { constraint = p; time = d.clock })
+  unwritten : (p j y : ℕ) → ((i ≡ j) × (x ≡ y) → ⊥) → entry (without p).why j y ≡ entry d.why j y
+  unwritten p j y ne = entry_other d.why i x (record { constraint = p; time = d.clock }) j y (omega (arith, d.why_long)) ne
 
   pub put_out : (p : ℕ) → shown d i x ≡ true → PutOut (standing d) (standing (without p)) i x p d.clock
   put_out p was =
       record {
         shown = was;
         gone = here x ∙ ap (λ b. has_bit (get_or d.sets i 0) x && not b) (eq-eqb x x refl) ∙ and_no (has_bit (get_or d.sets i 0) x);
-        reason = ap (λ xs. entry xs i x) (new_reasons p) ∙ entry_same (reasons_of d.why) i x p fits (omega (arith, length-map d.why (λ (j : Justification). j.constraint), d.why_long));
-        time = ap (λ xs. entry xs i x) (new_times p) ∙ entry_same (times_of d.why) i x d.clock fits (omega (arith, length-map d.why (λ (j : Justification). j.time), d.why_long));
+        reason = ap (λ j. j.constraint) (written p);
+        time = ap (λ j. j.time) (written p);
         others = λ j y ne.
             record {
               shown = ⊎_elim (λ e. other_here j y ne e) (λ n. set_there d.sets i _ (omega (arith, d.sets_long)) j y n) (cases_eq j i);
-              reason = ap (λ xs. entry xs j y) (new_reasons p) ∙ entry_other (reasons_of d.why) i x p j y fits ne;
-              time = ap (λ xs. entry xs j y) (new_times p) ∙ entry_other (times_of d.why) i x d.clock j y fits ne;
+              reason = ap (λ k. k.constraint) (unwritten p j y ne);
+              time = ap (λ k. k.time) (unwritten p j y ne);
             };
       }
     where

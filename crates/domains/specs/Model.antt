@@ -1,5 +1,5 @@
 -- What the plain data means: arcs, a bound, and how the values stand.
-use Rattle.std.specs.Prelude.{ℕ, ◌+◌, ◌*◌, Bool, false, cond, ◌&&◌, ◌||◌, List, [], ◌∷◌, ◌==◌, count_ones, map, nat_lt, slice_index, slice_index_or}
+use Rattle.std.specs.Prelude.{ℕ, ◌+◌, ◌*◌, Bool, false, cond, ◌&&◌, ◌||◌, List, [], ◌∷◌, ◌==◌, count_ones, nat_lt, slice_index, slice_index_or}
 use Rattle.arcs.specs.Arcs.{Arcs}
 use Rattle.arcs.specs.Family.{Family, within_sizes}
 use Rattle.bits.specs.Bits.{has_bit, domains_of}
@@ -26,9 +26,13 @@ left_of c p = (slice_index_or c.ends p no_ends).left
 abbrev pub right_of : Constraints → ℕ → ℕ
 right_of c p = (slice_index_or c.ends p no_ends).right
 
+-- the row of the value x on a side: 2 * p is that of the left end of p, 2 * p + 1 that of its right end
+abbrev pub row : Constraints → ℕ → ℕ → ℕ
+row c side x = slice_index (slice_index_or c.rows side []) x
+
 -- does p let x of its left end stand beside y of its right end
 unfoldable pub pair_at : Constraints → ℕ → ℕ → ℕ → Bool
-pair_at c p x y = nat_lt x 64 && has_bit (slice_index c.rows (128 * p + x)) y
+pair_at c p x y = nat_lt x 64 && has_bit (row c (2 * p) x) y
 
 -- the constraints that are in, as arcs: a reason is a constraint's index, and is on at both ends
 abbrev pub arcs_of : Constraints → Arcs
@@ -42,19 +46,16 @@ arcs_of c = record {
 abbrev pub shown : Domains → Family
 shown d = domains_of d.sets
 
--- what an array of 2,048 entries has of the value x of the variable i
-unfoldable pub entry : List ℕ → ℕ → ℕ → ℕ
-entry xs i x = cond (nat_lt x 64) (slice_index xs (64 * i + x)) 0
+-- the justification of what is not there
+abbrev pub no_justification : Justification
+no_justification = record { constraint = 0; time = 0 }
 
--- the constraints that the justifications name, and their times
-abbrev pub reasons_of : List Justification → List ℕ
-reasons_of why = map (λ j. j.constraint) why
-
-abbrev pub times_of : List Justification → List ℕ
-times_of why = map (λ j. j.time) why
+-- what stands of the value x of the variable i
+abbrev pub entry : List (List Justification) → ℕ → ℕ → Justification
+entry why i x = slice_index_or (slice_index_or why i []) x no_justification
 
 abbrev pub standing : Domains → Standing
-standing d = record { shown = shown d; reason = entry (reasons_of d.why); time = entry (times_of d.why) }
+standing d = record { shown = shown d; reason = λ i x. (entry d.why i x).constraint; time = λ i x. (entry d.why i x).time }
 
 -- how many values are shown
 abbrev pub total : List ℕ → ℕ

@@ -7,7 +7,7 @@ use Rattle.justify.specs.Changes.{KeptOut}
 use Rattle.domains.specs.declared.Arc.{Arc}
 use Rattle.domains.specs.declared.Constraints.{Constraints}
 use Rattle.domains.specs.declared.Domains.{Domains}
-use Rattle.domains.specs.Model.{within, is_present, left_of, right_of, arcs_of, shown, standing, total}
+use Rattle.domains.specs.Model.{within, is_present, left_of, right_of, row, arcs_of, shown, standing, total}
 
 -- sizes up to 64; two different ends below 32; each pair stands in both rows
 pub record Shape (c : Constraints) : Type 0 where
@@ -15,7 +15,7 @@ pub record Shape (c : Constraints) : Type 0 where
   pub left_low : (p : ℕ) → left_of c p < 32
   pub right_low : (p : ℕ) → right_of c p < 32
   pub apart : (p : ℕ) → is_present c p ≡ true → left_of c p ≢ right_of c p
-  pub mirror : (p x y : ℕ) → p < 128 → x < 64 → y < 64 → has_bit (slice_index c.rows (128 * p + 64 + y)) x ≡ has_bit (slice_index c.rows (128 * p + x)) y
+  pub mirror : (p x y : ℕ) → p < 128 → x < 64 → y < 64 → has_bit (row c (2 * p + 1) y) x ≡ has_bit (row c (2 * p) x) y
 
 -- the shown values lie inside the sizes, all others are justified, and times are apart and below the clock
 pub record Sound (c : Constraints) (d : Domains) : Type 0 where
@@ -37,14 +37,14 @@ pub record Facing (c : Constraints) (a : Arc) : Type 0 where
   pub near_low : a.near < 32
   pub far_low : a.far < 32
   pub apart : a.near ≢ a.far
-  pub rows_low : a.rows + 64 ≤ 16384
+  pub rows_low : a.rows < 256
   pub on : (arcs_of c).on a.near a.constraint ≡ true
   pub far : (arcs_of c).far a.near a.constraint ≡ a.far
   pub on_far : (arcs_of c).on a.far a.constraint ≡ true
   pub ends : (i : ℕ) → (arcs_of c).on i a.constraint ≡ true → (i ≡ a.near) ⊎ (i ≡ a.far)
   pub far_far : (arcs_of c).far a.far a.constraint ≡ a.near
-  pub fits : (x y : ℕ) → x < 64 → y < 64 → (arcs_of c).fits a.near a.constraint x y ≡ has_bit (slice_index c.rows (a.rows + x)) y
-  pub turned : (x y : ℕ) → x < 64 → y < 64 → (arcs_of c).fits a.far a.constraint y x ≡ has_bit (slice_index c.rows (a.rows + x)) y
+  pub fits : (x y : ℕ) → x < 64 → y < 64 → (arcs_of c).fits a.near a.constraint x y ≡ has_bit (row c a.rows x) y
+  pub turned : (x y : ℕ) → x < 64 → y < 64 → (arcs_of c).fits a.far a.constraint y x ≡ has_bit (row c a.rows x) y
 
 -- Of the values of the arc's near variable below x, exactly those without a support have gone out; nothing else has.
 pub record RevisedBelow (c : Constraints) (d d' : Domains) (a : Arc) (x : ℕ) : Type 0 where

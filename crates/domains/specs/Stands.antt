@@ -26,6 +26,7 @@ with_present c p b =
       present_long = length-set c.present p b ∙ c.present_long;
       ends_long = c.ends_long;
       rows_long = c.rows_long;
+      each_row_long = c.each_row_long;
     }
 
 -- a lent room is as long as it was, and past its first n entries as it was

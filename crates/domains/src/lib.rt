@@ -1,25 +1,29 @@
 // The plain data of the propagation engine: constraints with their rows of supports, and domains with their justifications.
 #![tactic(auto)]
 
-ghost use Rattle.std.specs.Prelude.{◌≡◌, ℕ, ◌^◌, ◌<◌, length, slice_index};
+ghost use Rattle.std.specs.Prelude.{◌≡◌, ℕ, ◌^◌, ◌<◌, length, [], slice_index, slice_index_or};
 
 mod make;
 
 pub use make::{capped, full, no_constraints, no_domains};
 
-// Bit x of `sets[i]` says whether the value x of the variable i is shown; its justification stands at 64 * i + x of `why`.
+// The last time at which a constraint may go in or out: at most 2,048 values go out then.
+pub const LAST_TIME: u32 = 4_294_965_247;
+
+// Bit x of `sets[i]` says whether the value x of the variable i is shown; `why[i][x]` is its justification.
 #[derive(Drop)]
 pub struct Domains {
     pub sets: [u64; 32],
-    pub why: [Justification; 2048],
+    pub why: [[Justification; 64]; 32],
     pub clock: u32,
     pub ghost sets_long: { length sets ≡ 32 },
-    pub ghost why_long: { length why ≡ 2048 },
+    pub ghost why_long: { length why ≡ 32 },
+    pub ghost each_why_long: { (i : ℕ) → i < 32 → length (slice_index_or why i []) ≡ 64 },
     pub ghost wide: { (i : ℕ) → slice_index sets i < 2 ^ 64 },
 }
 
-// The variables' sizes, and the constraints by their index: whether it is in, its two ends, and its rows of supports. Row 128 * p + x has
-// bit y, and row 128 * p + 64 + y has bit x, where p lets x of its left end stand beside y of its right end. `present` stands apart from
+// The variables' sizes, and the constraints by their index: whether it is in, its two ends, and its rows of supports on the
+// sides of both. `rows[2 * p][x]` has bit y, and `rows[2 * p + 1][y]` has bit x, where p lets x of its left end stand beside y of its right end. `present` stands apart from
 // `ends`, since an opening takes every constraint out in one write and leaves the ends, for which a struct of both would need a loop. Only
 // what is true of any arrays of these types stands in the type: what else is asked of constraints is `Shape`, since anyone may make such a value.
 #[derive(Drop)]
@@ -27,11 +31,12 @@ pub struct Constraints {
     pub sizes: [u8; 32],
     pub present: [bool; 128],
     pub ends: [Ends; 128],
-    pub rows: [u64; 16384],
+    pub rows: [[u64; 64]; 256],
     pub ghost sizes_long: { length sizes ≡ 32 },
     pub ghost present_long: { length present ≡ 128 },
     pub ghost ends_long: { length ends ≡ 128 },
-    pub ghost rows_long: { length rows ≡ 16384 },
+    pub ghost rows_long: { length rows ≡ 256 },
+    pub ghost each_row_long: { (s : ℕ) → s < 256 → length (slice_index_or rows s []) ≡ 64 },
 }
 
 // The two variables that a constraint ties.
@@ -41,7 +46,7 @@ pub struct Ends {
     pub right: u8,
 }
 
-// A constraint seen from one of its ends, with the first of its rows on that side.
+// A constraint seen from one of its ends, with the place of its rows on that side.
 #[derive(Clone, Copy, PartialEq, Eq, Debug)]
 pub struct Arc {
     pub constraint: usize,
@@ -51,14 +56,14 @@ pub struct Arc {
 }
 
 // By which constraint a value is out, and since when.
-#[derive(Clone, Copy, PartialEq, Eq, Debug)]
+#[derive(Clone, Copy, PartialEq, Eq, Debug, Default)]
 pub struct Justification {
     pub constraint: usize,
     pub time: u32,
 }
 
 // A value that came back, with the time of the justification that it had.
-#[derive(Clone, Copy, PartialEq, Eq, Debug)]
+#[derive(Clone, Copy, PartialEq, Eq, Debug, Default)]
 pub struct Returning {
     pub variable: u8,
     pub value: u8,

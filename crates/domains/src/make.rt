@@ -13,7 +13,7 @@ pub fn no_constraints() -> Constraints
         sizes: [0; 32],
         present: [false; 128],
         ends: [Ends { left: 0, right: 0 }; 128],
-        rows: [0; 16384],
+        rows: [[0; 64]; 256],
     }
 }
 
@@ -21,13 +21,9 @@ pub fn no_constraints() -> Constraints
 pub fn no_domains() -> Domains
     ensures { result ≡ no_domains }
 {
-    let none = Justification {
-        constraint: 0,
-        time: 0,
-    };
     Domains {
         sets: [0; 32],
-        why: [none; 2048],
+        why: [[Justification::default(); 64]; 32],
         clock: 0,
     }
 }

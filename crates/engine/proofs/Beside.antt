@@ -11,7 +11,7 @@ use Rattle.domains.specs.declared.Constraints.{Constraints}
 use Rattle.domains.specs.declared.Domains.{Domains}
 use Rattle.domains.specs.declared.Justification.{Justification}
 use Rattle.domains.specs.declared.Returning.{Returning}
-use Rattle.domains.specs.Model.{within, left_of, right_of, arcs_of, shown, standing, entry, reason_is, reasons_of}
+use Rattle.domains.specs.Model.{within, left_of, right_of, arcs_of, shown, standing, row, entry, reason_is}
 use Rattle.domains.specs.Sound.{Shape, Facing, Sound}
 use Rattle.domains.specs.Releasing.{Releasing}
 use Rattle.domains.proofs.Facing.{on_low, on_present, on_at_far, ends_of}
@@ -59,9 +59,9 @@ beside_skip c d d' q q' v n shape off b =
 -- the constraint n ties the variable, and what it names among the supports of v came back
 module _ (c : Constraints) (d d' d'' : Domains) (q q' q'' : Queue Returning) (v : Returning) (n : ℕ) (a : Arc) (shape : Shape c) (facing : Facing c a) (near : a.near ≡ v.variable) (same : a.constraint ≡ n) (low : v.value < 64) where
   -- the far variable's values beside v, as the row says
-  fits_row : (x : ℕ) → x < 64 → (arcs_of c).fits a.far n x v.value ≡ has_bit (get_or c.rows (a.rows + v.value) 0) x
+  fits_row : (x : ℕ) → x < 64 → (arcs_of c).fits a.far n x v.value ≡ has_bit (row c a.rows v.value) x
   fits_row x h =
-      let P : ℕ → Type 0 = λ r. (arcs_of c).fits a.far r x v.value ≡ has_bit (get_or c.rows (a.rows + v.value) 0) x in
+      let P : ℕ → Type 0 = λ r. (arcs_of c).fits a.far r x v.value ≡ has_bit (row c a.rows v.value) x in
       subst P same (facing.turned v.value x low h)
 
   far_back : (arcs_of c).far a.far n ≡ v.variable
@@ -78,7 +78,7 @@ module _ (c : Constraints) (d d' d'' : Domains) (q q' q'' : Queue Returning) (v 
   inside_low : (i x : ℕ) → within c i x ≡ true → x < 64
   inside_low i x h = omega (arith, ltb-true x (get_or c.sizes i 0) h, shape.small i)
 
-  all_rest : (p : ℕ) (d₀ d₁ : Domains) (w : List Returning) → Releasing c p d₀ d₁ (v ∷ w) → AllRest c p d₀ a.far n (get_or c.rows (a.rows + v.value) 0)
+  all_rest : (p : ℕ) (d₀ d₁ : Domains) (w : List Returning) → Releasing c p d₀ d₁ (v ∷ w) → AllRest c p d₀ a.far n (row c a.rows v.value)
   all_rest p d₀ d₁ w r x o e has =
       let s : Rests (arcs_of c) (within c) (standing d₀) (reason_is p) v.variable v.value =
       r.only v.variable v.value (r.waiting v.variable v.value (inl (refl, refl)))
@@ -90,7 +90,7 @@ module _ (c : Constraints) (d d' d'' : Domains) (q q' q'' : Queue Returning) (v 
       (subst P (sym e) (fits_row x (inside_low a.far x o.inside) ∙ has))
       (subst Q (sym (subst F (sym e) far_back)) s)
 
-  pub beside_more : Roomy c d'' q'' → Grew d' d'' q' q'' → FreesAmong c d' d'' (waits q') (waits q'') a.far n (get_or c.rows (a.rows + v.value) 0) → ((x : ℕ) → within c a.far x ≡ true → has_bit (get_or c.rows (a.rows + v.value) 0) x ≡ true → entry (reasons_of d''.why) a.far x ≡ n → shown d'' a.far x ≡ true) → Beside c d d' q q' v n → Beside c d d'' q q'' v (n + 1)
+  pub beside_more : Roomy c d'' q'' → Grew d' d'' q' q'' → FreesAmong c d' d'' (waits q') (waits q'') a.far n (row c a.rows v.value) → ((x : ℕ) → within c a.far x ≡ true → has_bit (row c a.rows v.value) x ≡ true → (entry d''.why a.far x).constraint ≡ n → shown d'' a.far x ≡ true) → Beside c d d' q q' v n → Beside c d d'' q q'' v (n + 1)
   beside_more roomy grew frees freed b =
       record {
         roomy = roomy;
@@ -117,9 +117,9 @@ module _ (c : Constraints) (d d' d'' : Domains) (q q' q'' : Queue Returning) (v 
               let Y : ℕ → Type 0 = λ j. (arcs_of c).fits j n x v.value ≡ true in
               let I : ℕ → Type 0 = λ j. within c j x ≡ true in
               let inside : within c a.far x ≡ true = subst I at o.inside in
-              let has : has_bit (get_or c.rows (a.rows + v.value) 0) x ≡ true = sym (fits_row x (inside_low a.far x inside)) ∙ subst Y at (subst X e fits) in
-              let R : ℕ → Type 0 = λ j. entry (reasons_of d''.why) j x ≡ n in
-              let why : entry (reasons_of d''.why) i x ≡ n = ap (λ (j : List Justification). entry (reasons_of j) i x) (next p d₀ h).why ∙ e in
+              let has : has_bit (row c a.rows v.value) x ≡ true = sym (fits_row x (inside_low a.far x inside)) ∙ subst Y at (subst X e fits) in
+              let R : ℕ → Type 0 = λ j. (entry d''.why j x).constraint ≡ n in
+              let why : (entry d''.why i x).constraint ≡ n = ap (λ (w : List (List Justification)). (entry w i x).constraint) (next p d₀ h).why ∙ e in
               let S : ℕ → Type 0 = λ j. shown d'' j x ≡ true in
               subst S (sym at) (freed x inside has (subst R at why))
 
@@ -137,15 +137,15 @@ named_ends c p d shape sound i x o e =
     ends_of c p shape (on_low c i p on) (on_present c i p on) i on
 
 -- what names p at a variable was put back there, and is still
-pub named_at : (c : Constraints) (p all i x : ℕ) (d d' d'' : Domains) → d'.why ≡ d.why → Inside (shown d'') (shown d') → ((y : ℕ) → has_bit all y ≡ (ltb y 64 && ltb y 64)) → ((y : ℕ) → within c i y ≡ true → has_bit all y ≡ true → entry (reasons_of d'.why) i y ≡ p → shown d' i y ≡ true) → Shape c → Out (within c) (standing d) i x → (standing d).reason i x ≡ p → shown d'' i x ≡ true
+pub named_at : (c : Constraints) (p all i x : ℕ) (d d' d'' : Domains) → d'.why ≡ d.why → Inside (shown d'') (shown d') → ((y : ℕ) → has_bit all y ≡ (ltb y 64 && ltb y 64)) → ((y : ℕ) → within c i y ≡ true → has_bit all y ≡ true → (entry d'.why i y).constraint ≡ p → shown d' i y ≡ true) → Shape c → Out (within c) (standing d) i x → (standing d).reason i x ≡ p → shown d'' i x ≡ true
 named_at c p all i x d d' d'' why more mask freed shape o e =
     let low : x < 64 = omega (arith, ltb-true x (get_or c.sizes i 0) o.inside, shape.small i) in
     more i x
     (freed x o.inside (mask x ∙ and_from (ltb x 64) (ltb x 64) (lt-ltb x 64 low) (lt-ltb x 64 low))
-    (ap (λ (j : List Justification). entry (reasons_of j) i x) why ∙ e))
+    (ap (λ (w : List (List Justification)). (entry w i x).constraint) why ∙ e))
 
 -- both ends at once
-pub named_both : (c : Constraints) (p all : ℕ) (d d₁ d₂ d₃ : Domains) → Shape c → Sound c d → d₁.why ≡ d.why → d₂.why ≡ d₁.why → Inside (shown d₂) (shown d₁) → Inside (shown d₃) (shown d₂) → ((y : ℕ) → has_bit all y ≡ (ltb y 64 && ltb y 64)) → ((y : ℕ) → within c (left_of c p) y ≡ true → has_bit all y ≡ true → entry (reasons_of d₁.why) (left_of c p) y ≡ p → shown d₁ (left_of c p) y ≡ true) → ((y : ℕ) → within c (right_of c p) y ≡ true → has_bit all y ≡ true → entry (reasons_of d₂.why) (right_of c p) y ≡ p → shown d₂ (right_of c p) y ≡ true) → (i x : ℕ) → Out (within c) (standing d) i x → (standing d).reason i x ≡ p → shown d₃ i x ≡ true
+pub named_both : (c : Constraints) (p all : ℕ) (d d₁ d₂ d₃ : Domains) → Shape c → Sound c d → d₁.why ≡ d.why → d₂.why ≡ d₁.why → Inside (shown d₂) (shown d₁) → Inside (shown d₃) (shown d₂) → ((y : ℕ) → has_bit all y ≡ (ltb y 64 && ltb y 64)) → ((y : ℕ) → within c (left_of c p) y ≡ true → has_bit all y ≡ true → (entry d₁.why (left_of c p) y).constraint ≡ p → shown d₁ (left_of c p) y ≡ true) → ((y : ℕ) → within c (right_of c p) y ≡ true → has_bit all y ≡ true → (entry d₂.why (right_of c p) y).constraint ≡ p → shown d₂ (right_of c p) y ≡ true) → (i x : ℕ) → Out (within c) (standing d) i x → (standing d).reason i x ≡ p → shown d₃ i x ≡ true
 named_both c p all d d₁ d₂ d₃ shape sound w₁ w₂ m₂ m₃ mask left right i x o e =
     let O : ℕ → Type 0 = λ j. Out (within c) (standing d) j x in
     let E : ℕ → Type 0 = λ j. (standing d).reason j x ≡ p in

@@ -1,4 +1,5 @@
 -- What the tests before a call give, and what a call leaves.
+use Rattle.domains.specs.declared.TheConstants.{LAST_TIME}
 use Rattle.std.proofs.Common.{subst, ◌≡◌, ℕ, ◌<◌, ◌≤◌, min, true, false, cond, not, ◌&&◌, eqb, ltb, List, length, get_or, Some, None, Option, MatchOption, sym, refl, ap, ◌∙◌, ⊎_elim, arith}
 use Rattle.std.proofs.lemmas.List.{get_or_past}
 use Rattle.std.proofs.lemmas.Bool.{and_from, and_parts, cases_lt, cond-true, eq-eqb, eqb-false, lt-ltb, ltb-false, ltb-true, not_from_false, not-true}
@@ -20,7 +21,7 @@ pub record Addable (c : Constraints) (d : Domains) (p room : ℕ) : Type 0 where
   pub low : p < 128
   pub apart : left_of c p ≡ right_of c p → ⊥
   pub wide : 128 ≤ room
-  pub time : d.clock ≤ 4294965247
+  pub time : d.clock ≤ LAST_TIME
 
 pub addable : (c : Constraints) (d : Domains) (p room : ℕ) → true ≡ can_add c d p room → Addable c d p room
 addable c d p room e =
@@ -32,14 +33,14 @@ addable c d p room e =
       low = ltb-true p 128 a.0;
       apart = eqb-false (left_of c p) (right_of c p) (not-true (eqb (left_of c p) (right_of c p)) f.0);
       wide = ltb-false room 128 (not-true (ltb room 128) g.0);
-      time = ltb-false 4294965247 d.clock (not-true (ltb 4294965247 d.clock) g.1);
+      time = ltb-false LAST_TIME d.clock (not-true (ltb LAST_TIME d.clock) g.1);
     }
 
 pub record Retractable (c : Constraints) (d : Domains) (p room returning : ℕ) : Type 0 where
   pub low : p < 128
   pub wide : 128 ≤ room
   pub returns : 2048 ≤ returning
-  pub time : d.clock ≤ 4294965247
+  pub time : d.clock ≤ LAST_TIME
 
 pub retractable : (c : Constraints) (d : Domains) (p room returning : ℕ) → true ≡ can_retract c d p room returning → Retractable c d p room returning
 retractable c d p room returning e =
@@ -51,7 +52,7 @@ retractable c d p room returning e =
       low = ltb-true p 128 a.0;
       wide = ltb-false room 128 (not-true (ltb room 128) f.0);
       returns = ltb-false returning 2048 (not-true (ltb returning 2048) g.0);
-      time = ltb-false 4294965247 d.clock (not-true (ltb 4294965247 d.clock) g.1);
+      time = ltb-false LAST_TIME d.clock (not-true (ltb LAST_TIME d.clock) g.1);
     }
 
 pub right_now : (c : Constraints) (d : Domains) → Stands c d → Right c d

@@ -12,7 +12,7 @@ use Rattle.domains.specs.declared.Constraints.{Constraints}
 use Rattle.domains.specs.declared.Domains.{Domains}
 use Rattle.domains.specs.declared.Justification.{Justification}
 use Rattle.domains.specs.declared.Returning.{Returning}
-use Rattle.domains.specs.Model.{within, arcs_of, shown, standing, entry, total, reason_is, reasons_of}
+use Rattle.domains.specs.Model.{within, arcs_of, shown, standing, entry, total, reason_is}
 use Rattle.domains.specs.Releasing.{Low, Releasing}
 use Rattle.domains.proofs.Entries.{total_few}
 use Rattle.domains.proofs.Release.{low_push, back_grows, back_cases, was_out, releasing_free}
@@ -73,7 +73,7 @@ module _ (c : Constraints) (d d' : Domains) (q q' : Queue Returning) (i x t : �
       let P : List Returning → Type 0 = λ w. Releasing c p d₀ d' w in
       let e : Returning = record { variable = i; value = x; time = t } in
       let out : Out (within c) (standing d₀) i x = was_out c p d₀ d (first ++ waits q) i x r inside gone in
-      let same : (standing d₀).reason i x ≡ (standing d).reason i x = ap (λ (j : List Justification). entry (reasons_of j) i x) (sym r.why) in
+      let same : (standing d₀).reason i x ≡ (standing d).reason i x = ap (λ (w : List (List Justification)). (entry w i x).constraint) (sym r.why) in
       subst P (append_assoc first (waits q) (e ∷ []) ∙ ap (λ w. first ++ w) (sym waiting))
       (releasing_free c p d₀ d d' (first ++ waits q) e i x r put refl refl why out (rests out same))
 
@@ -82,18 +82,18 @@ pub record Among (c : Constraints) (d d' : Domains) (q q' : Queue Returning) (i 
   pub roomy : Roomy c d' q'
   pub grew : Grew d d' q q'
   pub frees : FreesAmong c d d' (waits q) (waits q') i p among
-  pub below : (k : ℕ) → k < x → has_bit among k ≡ true → entry (reasons_of d'.why) i k ≡ p → shown d' i k ≡ true
+  pub below : (k : ℕ) → k < x → has_bit among k ≡ true → (entry d'.why i k).constraint ≡ p → shown d' i k ≡ true
 
 pub among_none : (c : Constraints) (d : Domains) (q : Queue Returning) (i p among : ℕ) → Roomy c d q → Among c d d q q i p among 0
 among_none c d q i p among r =
     record { roomy = r; grew = grew_refl d q; frees = λ _ _ _ _ h. h; below = λ k h _ _. absurd (omega arith) }
 
-pub among_skip : (c : Constraints) (d d' : Domains) (q q' : Queue Returning) (i p among x : ℕ) → (has_bit among x ≡ true → entry (reasons_of d'.why) i x ≡ p → shown d' i x ≡ true) → Among c d d' q q' i p among x → Among c d d' q q' i p among (x + 1)
+pub among_skip : (c : Constraints) (d d' : Domains) (q q' : Queue Returning) (i p among x : ℕ) → (has_bit among x ≡ true → (entry d'.why i x).constraint ≡ p → shown d' i x ≡ true) → Among c d d' q q' i p among x → Among c d d' q q' i p among (x + 1)
 among_skip c d d' q q' i p among x here a =
     record { roomy = a.roomy; grew = a.grew; frees = a.frees; below = below_more _ x a.below here }
 
 module _ (c : Constraints) (d d' d'' : Domains) (q q' q'' : Queue Returning) (i p among x t : ℕ) (put : PutBack (standing d') (standing d'') i x) (why : d''.why ≡ d'.why) (more : total d''.sets ≡ total d'.sets + 1) (waiting : waits q'' ≡ waits q' ++ (record { variable = i; value = x; time = t } ∷ [])) (len : q''.len ≡ q'.len + 1) (kept : Kept q' q'') where
-  pub among_free : i < 32 → x < 64 → within c i x ≡ true → has_bit among x ≡ true → shown d' i x ≡ false → entry (reasons_of d'.why) i x ≡ p → d''.clock ≡ d'.clock → Among c d d' q q' i p among x → Among c d d'' q q'' i p among (x + 1)
+  pub among_free : i < 32 → x < 64 → within c i x ≡ true → has_bit among x ≡ true → shown d' i x ≡ false → (entry d'.why i x).constraint ≡ p → d''.clock ≡ d'.clock → Among c d d' q q' i p among x → Among c d d'' q q'' i p among (x + 1)
   among_free il xl inside has gone names clock a =
       record {
         roomy = roomy_free c d' d'' q' q'' i x t put why more waiting len kept il xl inside a.roomy;
@@ -101,6 +101,6 @@ module _ (c : Constraints) (d d' d'' : Domains) (q q' q'' : Queue Returning) (i 
         frees = λ r d₀ first rest rel.
             frees_free c d' d'' q' q'' i x t put why more waiting len kept r d₀ first inside gone (λ o e. rest x o (e ∙ names) has) (a.frees r d₀ first rest rel);
         below = below_more _ x
-            (λ k h b e. back_grows d' d'' i x put i k (a.below k h b (ap (λ (j : List Justification). entry (reasons_of j) i k) (sym why) ∙ e)))
+            (λ k h b e. back_grows d' d'' i x put i k (a.below k h b (ap (λ (w : List (List Justification)). (entry w i k).constraint) (sym why) ∙ e)))
             (λ _ _. put.back);
       }

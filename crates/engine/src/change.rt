@@ -4,6 +4,7 @@ ghost use Rattle.arcs.specs.Family.{Inside};
 ghost use Rattle.justify.specs.Changes.{Released, Same};
 ghost use Rattle.justify.specs.Standing.{Out, Rests};
 ghost use Rattle.queue.specs.Waiting.{Kept};
+ghost use Rattle.domains.specs.declared.TheConstants.{LAST_TIME};
 ghost use Rattle.domains.specs.Model.{arcs_of, left_of, reason_is, right_of, shown, standing, within};
 ghost use Rattle.domains.specs.Sound.{Went};
 ghost use Rattle.domains.specs.Stands.{Past, Stands, with_present};
@@ -19,7 +20,7 @@ pub(crate) fn put_in(c: &mut Constraints, d: &mut Domains, waiting: &mut [u8], c
     requires low { constraint < 128 }
     requires apart { left_of c.old constraint ≢ right_of c.old constraint }
     requires stands { Stands c.old d.old }
-    requires time { d.old.clock ≤ 4294965247 }
+    requires time { d.old.clock ≤ LAST_TIME }
     requires room { 128 ≤ length waiting.old }
     ensures present { c.new ≡ with_present c.old constraint true }
     ensures stands { Stands c.new d.new }
@@ -77,7 +78,7 @@ pub(crate) fn take_out(
 )
     requires low { constraint < 128 }
     requires stands { Stands c.old d.old }
-    requires time { d.old.clock ≤ 4294965247 }
+    requires time { d.old.clock ≤ LAST_TIME }
     requires room { 128 ≤ length waiting.old }
     requires returns { 2048 ≤ length returning.old }
     ensures absent { c.new ≡ with_present c.old constraint false }

@@ -5,7 +5,7 @@ ghost use Rattle.arcs.specs.Family.{Inside};
 ghost use Rattle.justify.specs.Changes.{PutBack, Released};
 ghost use Rattle.queue.specs.Waiting.{Kept, waits};
 ghost use Rattle.bits.specs.Bits.{has_bit};
-ghost use Rattle.domains.specs.Model.{arcs_of, entry, is_present, reason_is, reasons_of, shown, standing, times_of, total, within};
+ghost use Rattle.domains.specs.Model.{arcs_of, entry, is_present, reason_is, shown, standing, total, within};
 ghost use Rattle.domains.specs.Releasing.{Followed, Low, Releasing};
 ghost use Rattle.domains.specs.Sound.{Facing, Shape, Sound};
 ghost use Rattle.engine.specs.Returns.{FreesAmong, Grew, Roomy};
@@ -19,12 +19,12 @@ use queue::Queue;
 pub(crate) fn names(d: &Domains, variable: usize, value: usize, constraint: usize) -> bool
     requires variable { variable < 32 }
     requires value { value < 64 }
-    ensures { result ≡ (not (shown d.now variable value) && entry (reasons_of d.now.why) variable value == constraint) }
+    ensures { result ≡ (not (shown d.now variable value) && (entry d.now.why variable value).constraint == constraint) }
 {
     if bits::has(d.sets[variable], value) {
         return false;
     }
-    d.why[64 * variable + value].constraint == constraint
+    d.why[variable][value].constraint == constraint
 }
 
 // Puts the value back and lets it wait.
@@ -38,12 +38,12 @@ pub(crate) fn free(d: &mut Domains, q: &mut Queue<'_, Returning>, variable: usiz
     ensures clock { d.new.clock ≡ d.old.clock }
     ensures why { d.new.why ≡ d.old.why }
     ensures more { total d.new.sets ≡ total d.old.sets + 1 }
-    ensures waiting { waits q.new ≡ waits q.old ++ (record { variable = variable; value = value; time = entry (times_of d.old.why) variable value } ∷ []) }
+    ensures waiting { waits q.new ≡ waits q.old ++ (record { variable = variable; value = value; time = (entry d.old.why variable value).time } ∷ []) }
     ensures len { q.new.len ≡ q.old.len + 1 }
     ensures kept { Kept q.old q.new }
 {
     put_back(d, variable, value);
-    let time = d.why[64 * variable + value].time;
+    let time = d.why[variable][value].time;
     let _ = q.push(Returning {
         variable: variable as u8,
         value: value as u8,
@@ -66,7 +66,7 @@ pub(crate) fn free_among(
     ensures roomy { Roomy c.now d.new q.new }
     ensures grew { Grew d.old d.new q.old q.new }
     ensures frees { FreesAmong c.now d.old d.new (waits q.old) (waits q.new) variable constraint among }
-    ensures freed { (x : ℕ) → within c.now variable x ≡ true → has_bit among x ≡ true → entry (reasons_of d.new.why) variable x ≡ constraint → shown d.new variable x ≡ true }
+    ensures freed { (x : ℕ) → within c.now variable x ≡ true → has_bit among x ≡ true → (entry d.new.why variable x).constraint ≡ constraint → shown d.new variable x ≡ true }
 {
     let size = c.sizes[variable] as usize;
     for x in 0..size {
@@ -95,7 +95,7 @@ pub(crate) fn free_beside(
 {
     for p in 0..128 {
         if let Some(arc) = arc_at(c, returning.variable as usize, p) {
-            let beside = c.rows[arc.rows + returning.value as usize];
+            let beside = c.rows[arc.rows][returning.value as usize];
             free_among(c, d, q, arc.far, p, beside);
         }
     }

@@ -22,14 +22,14 @@ pub(crate) fn arc_at(c: &Constraints, variable: usize, constraint: usize) -> Opt
             constraint,
             near: left,
             far: right,
-            rows: 128 * constraint,
+            rows: 2 * constraint,
         })
     } else if right == variable {
         Some(Arc {
             constraint,
             near: right,
             far: left,
-            rows: 128 * constraint + 64,
+            rows: 2 * constraint + 1,
         })
     } else {
         None
@@ -46,7 +46,7 @@ pub(crate) fn revise(c: &Constraints, d: &mut Domains, arc: Arc) -> bool
 {
     let supports = d.sets[arc.far];
     let before = d.clock;
-    for (x, row) in c.rows[arc.rows..arc.rows + 64].iter().enumerate() {
+    for (x, row) in c.rows[arc.rows].iter().enumerate() {
         if bits::has(d.sets[arc.near], x) {
             if supports & *row == 0 {
                 put_out(d, arc.near, x, arc.constraint);

@@ -19,7 +19,7 @@ pub(crate) fn put_out(d: &mut Domains, variable: usize, value: usize, constraint
     ensures others { (j : ℕ) → (j ≢ variable) → slice_index d.new.sets j ≡ slice_index d.old.sets j }
 {
     d.sets[variable] ^= 1 << value;
-    d.why[64 * variable + value] = Justification {
+    d.why[variable][value] = Justification {
         constraint,
         time: d.clock,
     };

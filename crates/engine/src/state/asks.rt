@@ -1,6 +1,6 @@
 ghost use Rattle.std.specs.Prelude.{◌≡◌, ℕ, ◌<◌, false, slice_index};
 ghost use Rattle.arcs.specs.WipedOut.{WipedOut};
-ghost use Rattle.domains.specs.Model.{entry, is_present, reasons_of, shown, times_of};
+ghost use Rattle.domains.specs.Model.{entry, is_present, shown};
 ghost use Rattle.engine.specs.Calls.{justification_of};
 
 use super::Engine;
@@ -10,9 +10,9 @@ use domains::{Domains, Justification};
 fn read(d: &Domains, variable: usize, value: usize) -> Justification
     requires variable { variable < 32 }
     requires value { value < 64 }
-    ensures { result ≡ record { constraint = entry (reasons_of d.now.why) variable value; time = entry (times_of d.now.why) variable value } }
+    ensures { result ≡ entry d.now.why variable value }
 {
-    d.why[64 * variable + value]
+    d.why[variable][value]
 }
 
 impl Engine {

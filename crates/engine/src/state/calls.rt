@@ -5,10 +5,7 @@ ghost use Rattle.engine.specs.Calls.{Added, Retracted, can_add, can_retract};
 
 use super::Engine;
 use crate::change::{put_in, take_out};
-use domains::{Constraints, Domains, Ends, Returning};
-
-// The last time at which a constraint may go in or out: at most 2,048 values go out then.
-const LAST: u32 = 4_294_965_247;
+use domains::{Constraints, Domains, Ends, LAST_TIME, Returning};
 
 fn can_add(c: &Constraints, d: &Domains, constraint: usize, room: usize) -> bool
     ensures { result ≡ can_add c.now d.now constraint room }
@@ -20,7 +17,7 @@ fn can_add(c: &Constraints, d: &Domains, constraint: usize, room: usize) -> bool
     if c.present[constraint] || left == right {
         return false;
     }
-    room >= 128 && d.clock <= LAST
+    room >= 128 && d.clock <= LAST_TIME
 }
 
 fn can_retract(
@@ -38,7 +35,7 @@ fn can_retract(
     if !c.present[constraint] {
         return false;
     }
-    room >= 128 && returning >= 2048 && d.clock <= LAST
+    room >= 128 && returning >= 2048 && d.clock <= LAST_TIME
 }
 
 // How many values are shown. A `for`: with `map` and `sum` it was tried, and the bound that `sum` asks did not close.

@@ -19,17 +19,6 @@ fn can_load(c: &Constraints, constraint: usize, left: usize, right: usize) -> bo
     left < 32 && right < 32 && left != right
 }
 
-// Writes 64 rows from a place on.
-fn write_rows(all: &mut [u64; 16384], at: usize, rows: &[u64; 64])
-    requires low { at + 64 ≤ 16384 }
-    requires long { length all.old ≡ 16384 }
-    ensures long { length all.new ≡ 16384 }
-    ensures written { (k : ℕ) → k < 64 → slice_index all.new (at + k) ≡ slice_index rows.now k }
-    ensures others { (j : ℕ) → (j < at) ⊎ (at + 64 ≤ j) → slice_index all.new j ≡ slice_index all.old j }
-{
-    all[at..at + 64].copy_from_slice(rows);
-}
-
 // Gives a constraint that is not in its ends and its rows.
 fn write(c: &mut Constraints, constraint: usize, left: usize, right: usize, rows: &[u64; 64])
     requires loadable { Loadable c.old constraint left right }
@@ -37,13 +26,12 @@ fn write(c: &mut Constraints, constraint: usize, left: usize, right: usize, rows
     ensures loaded { Loaded c.old c.new constraint left right rows.now }
     ensures shape { Shape c.new }
 {
-    let turned = supports::turned(rows);
     c.ends[constraint] = Ends {
         left: left as u8,
         right: right as u8,
     };
-    write_rows(&mut c.rows, 128 * constraint, rows);
-    write_rows(&mut c.rows, 128 * constraint + 64, &turned);
+    c.rows[2 * constraint] = *rows;
+    c.rows[2 * constraint + 1] = supports::turned(rows);
 }
 
 impl Engine {

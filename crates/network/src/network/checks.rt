@@ -7,12 +7,9 @@ ghost use Rattle.std.specs.Result.{result_err};
 
 use super::Network;
 use catalog::Catalog;
-use domains::Returning;
+use domains::{LAST_TIME, Returning};
 use refusal::Refusal;
 use refusal::checks::check_constraint;
-
-// The last time at which a change may begin: at most 2,048 values go out in it.
-const LAST: u32 = 4_294_965_247;
 
 // Is there room and time for a change?
 fn check_lent(waiting: &[u8], returning: &[Returning], clock: u32) -> Result<(), Refusal>
@@ -21,7 +18,7 @@ fn check_lent(waiting: &[u8], returning: &[Returning], clock: u32) -> Result<(),
     if waiting.len() < 128 || returning.len() < 2048 {
         return Err(Refusal::ShortBuffer);
     }
-    if clock > LAST {
+    if clock > LAST_TIME {
         return Err(Refusal::ClockSpent);
     }
     Ok(())

@@ -1,4 +1,4 @@
-ghost use Rattle.std.specs.Prelude.{◌≡◌, ◌+◌, ◌-◌, ◌<◌, ◌≤◌, min, nat_lt, [], ◌∷◌, ◌++◌, length, if◌then◌else◌, MatchOption, MatchResult, is_ok};
+ghost use Rattle.std.specs.Prelude.{◌≡◌, ◌+◌, ◌-◌, ◌<◌, ◌≤◌, min, nat_lt, [], ◌∷◌, ◌++◌, length, if◌then◌else◌, MatchOption, IfErr, is_ok};
 ghost use Rattle.queue.specs.Waiting.{Kept, Over, waits};
 
 use super::Queue;
@@ -53,8 +53,9 @@ impl<'a, T: Copy> Queue<'a, T> {
     // One more at the end, or the entry back and nothing altered where there is no room.
     pub fn push(&mut self, entry: T) -> Result<(), T>
         ensures fits { is_ok result ≡ nat_lt self.old.len self.old.limit }
-        ensures waiting { MatchResult result (λ _. waits self.new ≡ waits self.old ++ (entry ∷ [])) (λ back. (back ≡ entry) × (waits self.new ≡ waits self.old)) }
-        ensures len { MatchResult result (λ _. self.new.len ≡ self.old.len + 1) (λ _. self.new.len ≡ self.old.len) }
+        ensures waiting { waits self.new ≡ (if is_ok result then waits self.old ++ (entry ∷ []) else waits self.old) }
+        ensures len { self.new.len ≡ (if is_ok result then self.old.len + 1 else self.old.len) }
+        ensures back { IfErr result (λ back. back ≡ entry) }
         ensures kept { Kept self.old self.new }
     {
         if self.len >= self.limit {

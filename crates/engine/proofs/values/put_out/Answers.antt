@@ -20,4 +20,4 @@ invariant_of-d c =
     let i = c.args.variable in
     let x = c.args.value in
     let e = without d i x c.requires.variable c.requires.value c.args.constraint in
-    record { sets_long = e.sets_long; why_long = e.why_long; wide = e.wide }
+    record { sets_long = e.sets_long; why_long = e.why_long; each_why_long = e.each_why_long; wide = e.wide }

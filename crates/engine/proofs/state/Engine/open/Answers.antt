@@ -4,7 +4,7 @@ use Rattle.engine.proofs.Called.{afresh_stands, afresh_opened}
 use Rattle.engine.proofs.state.Engine.open.Goals as goal
 
 pub invariant_of-self-3 : goal.invariant_of-self-3
-invariant_of-self-3 c = record { sets_long = c.full-sets.ensures.long; why_long = c.args.self.now.domains.why_long; wide = c.full-sets.ensures.wide }
+invariant_of-self-3 c = record { sets_long = c.full-sets.ensures.long; why_long = c.args.self.now.domains.why_long; each_why_long = c.args.self.now.domains.each_why_long; wide = c.full-sets.ensures.wide }
 
 pub invariant_of-self-4 : goal.invariant_of-self-4
 invariant_of-self-4 c =

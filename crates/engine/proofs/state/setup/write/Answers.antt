@@ -1,4 +1,4 @@
-use Rattle.std.proofs.Common.{refl, subst}
+use Rattle.std.proofs.Common.{◌≡◌, ℕ, length, subst, rules}
 use Rattle.domains.specs.Sound.{Shape}
 use Rattle.domains.specs.Stands.{Loaded}
 use Rattle.domains.proofs.Lengths.{same_data}
@@ -10,12 +10,12 @@ returns c =
     let n = c.args.c.now in
     let a = c.requires.loadable in
     let p = c.args.constraint in
+    let full : length c.args.rows.now ≡ 64 = search rules in
+    let full_turned : length c.turned.result ≡ 64 = search rules in
     record {
       loaded = subst (λ k. Loaded n k p c.args.left c.args.right c.args.rows.now) same_data
-          (load_done n p c.args.left c.args.right n.rows c.write_rows.new.all c.write_rows-2.new.all c.args.rows.now c.turned-turned.result a.low c.requires.shape refl c.write_rows-2.ensures.long
-          c.write_rows.ensures.written c.write_rows.ensures.others c.write_rows-2.ensures.written c.write_rows-2.ensures.others (λ x y _ _. c.turned-turned.ensures x y));
+          (load_done n p c.args.left c.args.right c.args.rows.now c.turned.result a.low c.requires.shape full full_turned (λ x y _ _. c.turned.ensures x y));
       shape = subst Shape same_data
-          (load_shape n p c.args.left c.args.right n.rows c.write_rows.new.all c.write_rows-2.new.all c.args.rows.now c.turned-turned.result a.low c.requires.shape refl c.write_rows-2.ensures.long
-          c.write_rows.ensures.written c.write_rows.ensures.others c.write_rows-2.ensures.written c.write_rows-2.ensures.others (λ x y _ _. c.turned-turned.ensures x y)
+          (load_shape n p c.args.left c.args.right c.args.rows.now c.turned.result a.low c.requires.shape full full_turned (λ x y _ _. c.turned.ensures x y)
           a.left_low a.right_low a.apart);
     }

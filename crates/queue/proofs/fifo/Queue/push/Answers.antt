@@ -11,6 +11,7 @@ returns g c =
       fits = search rules;
       waiting = push_at q.room.now q.limit q.head q.len c.tail-place.result c.args.entry q.within q.turn (omega arith) ways;
       len = refl;
+      back = search rules;
       kept =
           record {
             same = refl;
