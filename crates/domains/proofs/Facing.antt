@@ -1,5 +1,5 @@
 -- A constraint that is in, seen from its left end and from its right end.
-use Rattle.std.proofs.Common.{◌≡◌, ℕ, ◌+◌, ◌*◌, ◌<◌, true, false, ◌&&◌, ◌||◌, eqb, ltb, ◌⊎◌, get_or, sym, refl, ap, ◌∙◌, inl, inr, ⊎_elim, arith}
+use Rattle.std.proofs.Common.{◌≡◌, ℕ, ◌+◌, ◌*◌, ◌<◌, true, false, ◌&&◌, ◌||◌, eqb, ltb, ◌⊎◌, sym, refl, ap, ◌∙◌, inl, inr, ⊎_elim, arith}
 use Rattle.std.proofs.lemmas.Bool.{and_from, and_parts, or_cases, eqb-true, or_left, or_right, lt-ltb, ltb-true, eq-eqb, ne_eqb, cond-true, cond-false}
 use Rattle.bits.specs.Bits.{has_bit}
 use Rattle.domains.specs.declared.Arc.{Arc}

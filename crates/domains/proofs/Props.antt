@@ -1,5 +1,5 @@
 -- That constraints and domains stand rightly is a fact, not data: it can be kept in a ghost field and taken out again.
-use Rattle.std.proofs.Common.{◌≡◌, ℕ, ◌+◌, ◌<◌, ◌≤◌, true, get_or, sym, subst₂, ⊎_elim, arith}
+use Rattle.std.proofs.Common.{◌≡◌, ℕ, ◌<◌, ◌≤◌, true, get_or, sym, subst₂, ⊎_elim, arith}
 use mathlib.Core.Bool.{Bool-set}
 use mathlib.Core.HLevel.{Π_prop, ×_prop, ⊥_prop}
 use mathlib.Core.Logic.{∥∥₁_elim}

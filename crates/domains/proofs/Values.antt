@@ -11,7 +11,6 @@ use Rattle.bits.proofs.Bitwise.{bit_low}
 use Rattle.bits.proofs.Edits.{has_cleared, has_added, ones_cleared, ones_added}
 use Rattle.justify.specs.Changes.{PutOut, PutBack}
 use Rattle.domains.specs.declared.Domains.{Domains}
-use Rattle.domains.specs.declared.Justification.{Justification}
 use Rattle.domains.specs.Model.{entry, shown, standing, total}
 use Rattle.domains.proofs.Entries.{each_set, entry_same, entry_other, total-set}
 

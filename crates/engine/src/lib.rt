@@ -1,7 +1,6 @@
 // Incremental arc consistency with justifications, on plain data.
 #![tactic(auto)]
 
-mod change;
 mod propagate;
 mod release;
 mod revise;

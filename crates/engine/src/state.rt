@@ -4,6 +4,7 @@ use domains::{Constraints, Domains};
 
 mod asks;
 mod calls;
+mod change;
 mod setup;
 
 // Constraints and domains that stand rightly together: the domains are the largest under the constraints that are in, and every other

@@ -10,7 +10,6 @@ use domains::{Domains, Justification};
 pub(crate) fn put_out(d: &mut Domains, variable: usize, value: usize, constraint: usize)
     requires variable { variable < 32 }
     requires value { value < 64 }
-    requires constraint { constraint < 128 }
     requires time { d.old.clock + 1 < 2 ^ 32 }
     requires was { shown d.old variable value ≡ true }
     ensures put { PutOut (standing d.old) (standing d.new) variable value constraint d.old.clock }

@@ -4,39 +4,7 @@ ghost use Rattle.domains.specs.Stands.{Past, Stands};
 ghost use Rattle.engine.specs.Calls.{Added, Retracted, can_add, can_retract};
 
 use super::Engine;
-use crate::change::{put_in, take_out};
-use domains::{Constraints, Domains, Ends, LAST_TIME, Returning};
-
-fn can_add(c: &Constraints, d: &Domains, constraint: usize, room: usize) -> bool
-    ensures { result ≡ can_add c.now d.now constraint room }
-{
-    if constraint >= 128 {
-        return false;
-    }
-    let Ends { left, right } = c.ends[constraint];
-    if c.present[constraint] || left == right {
-        return false;
-    }
-    room >= 128 && d.clock <= LAST_TIME
-}
-
-fn can_retract(
-    c: &Constraints,
-    d: &Domains,
-    constraint: usize,
-    room: usize,
-    returning: usize,
-) -> bool
-    ensures { result ≡ can_retract c.now d.now constraint room returning }
-{
-    if constraint >= 128 {
-        return false;
-    }
-    if !c.present[constraint] {
-        return false;
-    }
-    room >= 128 && returning >= 2048 && d.clock <= LAST_TIME
-}
+use domains::{Domains, Ends, LAST_TIME, Returning};
 
 // How many values are shown. A `for`: with `map` and `sum` it was tried, and the bound that `sum` asks did not close.
 fn count(d: &Domains) -> u32
@@ -50,22 +18,41 @@ fn count(d: &Domains) -> u32
 }
 
 impl Engine {
+    // May the constraint go in, with so much room?
+    fn can_add(&self, constraint: usize, room: usize) -> bool
+        ensures { result ≡ can_add self.now.constraints self.now.domains constraint room }
+    {
+        if constraint >= 128 {
+            return false;
+        }
+        let Ends { left, right } = self.constraints.ends[constraint];
+        if self.constraints.present[constraint] || left == right {
+            return false;
+        }
+        room >= 128 && self.domains.clock <= LAST_TIME
+    }
+
+    // May it go out?
+    fn can_retract(&self, constraint: usize, room: usize, returning: usize) -> bool
+        ensures { result ≡ can_retract self.now.constraints self.now.domains constraint room returning }
+    {
+        if constraint >= 128 || !self.constraints.present[constraint] {
+            return false;
+        }
+        room >= 128 && returning >= 2048 && self.domains.clock <= LAST_TIME
+    }
+
     // Puts the constraint in and says how many values went out, or nothing where it cannot go in.
     pub fn add(&mut self, constraint: usize, waiting: &mut [u8]) -> Option<u32>
         ensures can { is_some result ≡ can_add self.old.constraints self.old.domains constraint (length waiting.old) }
         ensures added { MatchOption result ((self.new.constraints ≡ self.old.constraints) × (self.new.domains ≡ self.old.domains) × (waiting.new ≡ waiting.old)) (λ n. Added self.old.constraints self.new.constraints self.old.domains self.new.domains constraint n) }
         ensures past { Past 128 waiting.old waiting.new }
     {
-        if !can_add(&self.constraints, &self.domains, constraint, waiting.len()) {
+        if !self.can_add(constraint, waiting.len()) {
             return None;
         }
         let before = self.domains.clock;
-        put_in(
-            &mut self.constraints,
-            &mut self.domains,
-            waiting,
-            constraint,
-        );
+        self.put_in(constraint, waiting);
         Some(self.domains.clock - before)
     }
 
@@ -81,23 +68,11 @@ impl Engine {
         ensures past { Past 128 waiting.old waiting.new }
         ensures past_returning { Past 2048 returning.old returning.new }
     {
-        if !can_retract(
-            &self.constraints,
-            &self.domains,
-            constraint,
-            waiting.len(),
-            returning.len(),
-        ) {
+        if !self.can_retract(constraint, waiting.len(), returning.len()) {
             return None;
         }
         let before = count(&self.domains);
-        take_out(
-            &mut self.constraints,
-            &mut self.domains,
-            waiting,
-            returning,
-            constraint,
-        );
+        self.take_out(constraint, waiting, returning);
         Some(count(&self.domains) - before)
     }
 }

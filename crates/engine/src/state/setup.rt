@@ -58,7 +58,8 @@ impl Engine {
         self.domains.clock = time;
     }
 
-    // Gives a constraint that is not in its two ends and, for each value of the left one, the set of those that may stand beside it.
+    // Gives a constraint that is not in its two ends and, for each value of the left one, the set of those that may stand beside it. Says whether it did:
+    // a network keeps the answer as its note of what is known, and would make that flag of an error again.
     pub fn load(&mut self, constraint: usize, left: usize, right: usize, rows: &[u64; 64]) -> bool
         ensures can { result ≡ can_load self.old.constraints constraint left right }
         ensures loaded { MatchBool result (Loaded self.old.constraints self.new.constraints constraint left right rows.now) (self.new.constraints ≡ self.old.constraints) }

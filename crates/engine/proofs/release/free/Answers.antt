@@ -1,7 +1,6 @@
 use Rattle.std.proofs.Common.{◌≡◌, true, ◌∙◌, rules}
 use Rattle.std.specs.Result.{is_ok}
 use Rattle.std.proofs.lemmas.Bool.{cond-true, lt-ltb}
-use Rattle.queue.specs.Waiting.{waits}
 use Rattle.engine.proofs.Frees.{some_room}
 use Rattle.engine.proofs.release.free.Goals as goal
 

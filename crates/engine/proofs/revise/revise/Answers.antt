@@ -1,5 +1,4 @@
-use Rattle.std.proofs.Common.{◌≡◌, ℕ, ◌+◌, ◌-◌, ◌<◌, ◌≤◌, true, List, length, take, drop, get_or, bit_and, ap, sym, subst, arith}
-use Rattle.std.proofs.lemmas.List.{length-take, length-drop, get_or-take, get_or-drop}
+use Rattle.std.proofs.Common.{◌≡◌, ◌+◌, ◌<◌, true, sym, subst, arith}
 use Rattle.std.proofs.lemmas.Bool.{both_ways}
 use Rattle.domains.specs.declared.Domains.{Domains}
 use Rattle.domains.specs.Model.{shown}
@@ -16,7 +15,6 @@ put_out-requires c =
     record {
       variable = c.requires.facing.near_low;
       value = low;
-      constraint = c.requires.facing.constraint_low;
       time = omega (arith, some, c.loop-x.invariant.went.spent, c.requires.time);
       was = was;
     }

@@ -13,13 +13,9 @@ put_in-requires c =
     record {
       low = a.low;
       apart = a.apart;
-      stands = stands_out c.args.self.now.constraints c.args.self.now.domains c.args.self.now.stands;
       time = a.time;
       room = a.wide;
     }
-
-pub invariant_of-self-2 : goal.invariant_of-self-2
-invariant_of-self-2 c = record { stands = ∣ c.put_in.ensures.stands ∣₁ }
 
 pub returns : goal.returns
 returns c =
@@ -28,7 +24,7 @@ returns c =
       added =
           record {
             constraints = c.put_in.ensures.present;
-            right = right_now c.put_in.new.c c.put_in.new.d c.put_in.ensures.stands;
+            right = right_now c.put_in.new.self.constraints c.put_in.new.self.domains (stands_out _ _ c.put_in.new.self.stands);
             went = c.put_in.ensures.went;
             count = omega (arith, c.put_in.ensures.went.later);
           };

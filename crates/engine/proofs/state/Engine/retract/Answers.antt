@@ -20,7 +20,6 @@ take_out-requires c =
     in
     record {
       low = a.low;
-      stands = stands_out c.args.self.now.constraints c.args.self.now.domains c.args.self.now.stands;
       time = a.time;
       room = a.wide;
       returns = a.returns;
@@ -29,14 +28,11 @@ take_out-requires c =
 pub overflow_sub-result : goal.overflow_sub-result
 overflow_sub-result c = omega (
   arith,
-  more_shown c.args.self.now.constraints c.take_out.new.c c.args.self.now.domains c.take_out.new.d
-      (stands_out c.args.self.now.constraints c.args.self.now.domains c.args.self.now.stands) c.take_out.ensures.stands c.take_out.ensures.grew,
+  more_shown c.args.self.now.constraints c.take_out.new.self.constraints c.args.self.now.domains c.take_out.new.self.domains
+      (stands_out c.args.self.now.constraints c.args.self.now.domains c.args.self.now.stands) (stands_out _ _ c.take_out.new.self.stands) c.take_out.ensures.grew,
   c.count.ensures,
   c.count-before.ensures,
 )
-
-pub invariant_of-self-2 : goal.invariant_of-self-2
-invariant_of-self-2 c = record { stands = ∣ c.take_out.ensures.stands ∣₁ }
 
 pub returns : goal.returns
 returns c =
@@ -45,15 +41,15 @@ returns c =
       retracted =
           record {
             constraints = c.take_out.ensures.absent;
-            right = right_now c.take_out.new.c c.take_out.new.d c.take_out.ensures.stands;
+            right = right_now c.take_out.new.self.constraints c.take_out.new.self.domains (stands_out _ _ c.take_out.new.self.stands);
             grew = c.take_out.ensures.grew;
             kept = c.take_out.ensures.kept;
             later = c.take_out.ensures.later;
             soon = c.take_out.ensures.soon;
             count = omega (
               arith,
-              more_shown c.args.self.now.constraints c.take_out.new.c c.args.self.now.domains c.take_out.new.d
-                  (stands_out c.args.self.now.constraints c.args.self.now.domains c.args.self.now.stands) c.take_out.ensures.stands c.take_out.ensures.grew,
+              more_shown c.args.self.now.constraints c.take_out.new.self.constraints c.args.self.now.domains c.take_out.new.self.domains
+                  (stands_out c.args.self.now.constraints c.args.self.now.domains c.args.self.now.stands) (stands_out _ _ c.take_out.new.self.stands) c.take_out.ensures.grew,
               c.count.ensures,
               c.count-before.ensures,
             );

@@ -1,4 +1,4 @@
-use Rattle.std.proofs.Common.{◌≡◌, ℕ, length, subst, rules}
+use Rattle.std.proofs.Common.{◌≡◌, length, subst, rules}
 use Rattle.domains.specs.Sound.{Shape}
 use Rattle.domains.specs.Stands.{Loaded}
 use Rattle.domains.proofs.Lengths.{same_data}

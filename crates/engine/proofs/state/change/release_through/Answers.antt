@@ -1,6 +1,6 @@
 use Rattle.std.proofs.Common.{rules}
 use Rattle.engine.proofs.Start.{past_kept}
-use Rattle.engine.proofs.change.release_through.Goals as goal
+use Rattle.engine.proofs.state.change.release_through.Goals as goal
 
 pub returns : goal.returns
 returns c =

@@ -2,7 +2,7 @@ use Rattle.std.proofs.Common.{◌≡◌, ℕ, ◌<◌, true, false, length, get_
 use Rattle.queue.specs.Waiting.{Kept}
 use Rattle.domains.specs.Model.{arcs_of}
 use Rattle.engine.specs.Queued.{Queued}
-use Rattle.engine.proofs.change.enqueue_changed.Given as goal
+use Rattle.engine.proofs.state.change.enqueue_changed.Given as goal
 
 abbrev pub invariant-loop-i : goal.invariant-loop-i
 invariant-loop-i l =
