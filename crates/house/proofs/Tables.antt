@@ -1,7 +1,6 @@
 -- From the test of the whole table to the formula at each row.
-use Rattle.std.proofs.Common.{◌≡◌, ℕ, zero, suc, ◌+◌, ◌*◌, ◌/◌, ◌%◌, ◌^◌, ◌<◌, Bool, true, false, ◌&&◌, eqb, ltb, List, get_or, sym, refl, ap, ◌∙◌, ⊎_elim, arith}
+use Rattle.std.proofs.Common.{◌≡◌, ℕ, zero, suc, ◌^◌, ◌<◌, Bool, true, false, ◌&&◌, eqb, ltb, List, [], get_or, sym, refl, ap, ◌∙◌, ⊎_elim, arith}
 use Rattle.std.proofs.lemmas.Bool.{and_parts, lt-ltb, le-ltb, cases_lt, cases_eq}
-use Rattle.std.proofs.lemmas.Nat.{div-mul-add, mod-mul-add}
 use Rattle.bits.specs.Bits.{has_bit}
 use Rattle.bits.proofs.Bitwise.{bit_past}
 use Rattle.house.specs.House.{house}
@@ -20,19 +19,19 @@ equal true false e = sym e
 equal false true e = e
 equal false false e = refl
 
-in_row : (k row y : ℕ) → row_agrees k row ≡ true → row < 2 ^ 64
-    → has_bit row y ≡ (ltb y 64 && house.allows (k / 64) (k % 64) y)
+in_row : (p x row y : ℕ) → row_agrees p x row ≡ true → row < 2 ^ 64 → has_bit row y ≡ (ltb y 64 && house.allows p x y)
 unfolding row_agrees
-in_row k row y e w =
+in_row p x row y e w =
     ⊎_elim
-    (λ h. equal (has_bit row y) (house.allows (k / 64) (k % 64) y) (at_each (λ z. same (has_bit row z) (house.allows (k / 64) (k % 64) z)) 64 y e h)
-    ∙ ap (λ t. t && house.allows (k / 64) (k % 64) y) (sym (lt-ltb y 64 h)))
-    (λ h. ap (λ n. eqb n 1) (bit_past 64 row y w h) ∙ ap (λ t. t && house.allows (k / 64) (k % 64) y) (sym (le-ltb y 64 h))) (cases_lt y 64)
+    (λ h. equal (has_bit row y) (house.allows p x y) (at_each (λ z. same (has_bit row z) (house.allows p x z)) 64 y e h)
+    ∙ ap (λ t. t && house.allows p x y) (sym (lt-ltb y 64 h)))
+    (λ h. ap (λ n. eqb n 1) (bit_past 64 row y w h) ∙ ap (λ t. t && house.allows p x y) (sym (le-ltb y 64 h))) (cases_lt y 64)
 
-pub row_right : (rows : List ℕ) (p x y : ℕ) → agrees rows ≡ true → p < 4 → x < 64 → get_or rows (p * 64 + x) 0 < 2 ^ 64
-    → has_bit (get_or rows (p * 64 + x) 0) y ≡ (ltb y 64 && house.allows p x y)
+pub row_right : (rows : List (List ℕ)) (p x y : ℕ) → agrees rows ≡ true → p < 4 → x < 64 → get_or (get_or rows p []) x 0 < 2 ^ 64
+    → has_bit (get_or (get_or rows p []) x 0) y ≡ (ltb y 64 && house.allows p x y)
 unfolding agrees
 row_right rows p x y e hp hx w =
-    in_row (p * 64 + x) (get_or rows (p * 64 + x) 0) y (at_each (λ k. row_agrees k (get_or rows k 0)) 256 (p * 64 + x) e (omega arith)) w
-    ∙ ap (λ q. ltb y 64 && house.allows q ((p * 64 + x) % 64) y) (div-mul-add p 64 x hx)
-    ∙ ap (λ z. ltb y 64 && house.allows p z y) (mod-mul-add p 64 x hx)
+    let of_p : all_below (λ z. row_agrees p z (get_or (get_or rows p []) z 0)) 64 ≡ true =
+    at_each (λ q. all_below (λ z. row_agrees q z (get_or (get_or rows q []) z 0)) 64) 4 p e hp
+    in
+    in_row p x (get_or (get_or rows p []) x 0) y (at_each (λ z. row_agrees p z (get_or (get_or rows p []) z 0)) 64 x of_p hx) w

@@ -1,5 +1,5 @@
 -- The house catalog's table, and the test that it is the formulas'.
-use Rattle.std.specs.Prelude.{ℕ, zero, suc, ◌/◌, ◌%◌, Bool, true, false, not, ◌&&◌, List, slice_index}
+use Rattle.std.specs.Prelude.{ℕ, zero, suc, Bool, true, false, not, ◌&&◌, List, [], slice_index, slice_index_or}
 use Rattle.bits.specs.Bits.{has_bit}
 use Rattle.house.specs.House.{house}
 
@@ -12,9 +12,10 @@ abbrev pub same : Bool → Bool → Bool
 same true b = b
 same false b = not b
 
--- bit y of a row is set just where the formula allows y; row k is that of constraint k / 64 and value k % 64
-unfoldable pub row_agrees : ℕ → ℕ → Bool
-row_agrees k row = all_below (λ y. same (has_bit row y) (house.allows (k / 64) (k % 64) y)) 64
+-- bit y of the row is set just where constraint p allows y beside x by its formula
+unfoldable pub row_agrees : ℕ → ℕ → ℕ → Bool
+row_agrees p x row = all_below (λ y. same (has_bit row y) (house.allows p x y)) 64
 
-unfoldable pub agrees : List ℕ → Bool
-agrees rows = all_below (λ k. row_agrees k (slice_index rows k)) 256
+-- each row of the four constraints agrees with its formula
+unfoldable pub agrees : List (List ℕ) → Bool
+agrees rows = all_below (λ p. all_below (λ x. row_agrees p x (slice_index (slice_index_or rows p []) x)) 64) 4
