@@ -3,6 +3,7 @@ ghost use Rattle.std.specs.Prelude.{◌≡◌, ℕ, length};
 ghost use Rattle.scratch.specs.Refused.{indices_refusal, refusal};
 ghost use Rattle.std.specs.Result.{result_err};
 
+use crate::request::Request;
 use catalog::Catalog;
 use refusal::Refusal;
 use refusal::checks::{check_constraint, check_sizes};
@@ -18,20 +19,17 @@ fn check_indices<C: Catalog>(catalog: &C, n: usize, indices: &[usize]) -> Result
     Ok(())
 }
 
-// The first cause that refuses these arguments, where `room` is the length of the result list.
-pub(crate) fn check<C: Catalog>(
-    catalog: &C,
-    sizes: &[usize],
-    indices: &[usize],
-    room: usize,
-) -> Result<(), Refusal>
-    ensures { result_err result ≡ refusal (C.Catalog.meaning catalog.now) sizes.now indices.now room }
-{
-    check_sizes(sizes)?;
-    check_indices(catalog, sizes.len(), indices)?;
-    if sizes.len() <= room {
-        Ok(())
-    } else {
-        Err(Refusal::ShortResult)
+impl<C: Catalog> Request<'_, C> {
+    // The first cause that refuses the request, where `room` is the length of the result list.
+    pub(crate) fn check(&self, room: usize) -> Result<(), Refusal>
+        ensures { result_err result ≡ refusal (C.Catalog.meaning self.now.catalog.now) self.now.sizes.now self.now.indices.now room }
+    {
+        check_sizes(self.sizes)?;
+        check_indices(self.catalog, self.sizes.len(), self.indices)?;
+        if self.sizes.len() <= room {
+            Ok(())
+        } else {
+            Err(Refusal::ShortResult)
+        }
     }
 }

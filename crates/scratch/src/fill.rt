@@ -9,6 +9,7 @@ ghost use Rattle.scratch.specs.Refused.{indices_refusal};
 ghost use Rattle.scratch.specs.Rows.{Bounded};
 
 use crate::arc::Arc;
+use crate::request::Request;
 use catalog::Catalog;
 
 impl Arc {
@@ -24,40 +25,38 @@ impl Arc {
     }
 }
 
-// Keeps the constraint `p` both ways, unless it is kept already.
-fn keep<C: Catalog>(catalog: &C, sizes: &[usize], p: usize, arcs: &mut [Option<Arc>; 256])
-    requires { constraint_refusal (C.Catalog.meaning catalog.now) (length sizes.now) p ≡ None }
-    ensures { Adds (C.Catalog.meaning catalog.now) sizes.now p arcs.old arcs.new }
-{
-    if arcs[2 * p].is_some() {
-        return;
+impl<C: Catalog> Request<'_, C> {
+    // Keeps the constraint `p` both ways, unless it is kept already.
+    fn keep(&self, p: usize, arcs: &mut [Option<Arc>; 256])
+        requires { constraint_refusal (C.Catalog.meaning self.now.catalog.now) (length self.now.sizes.now) p ≡ None }
+        ensures { Adds (C.Catalog.meaning self.now.catalog.now) self.now.sizes.now p arcs.old arcs.new }
+    {
+        if arcs[2 * p].is_some() {
+            return;
+        }
+        if let Some((a, b)) = self.catalog.ends(p) {
+            let there = Arc {
+                near: a,
+                far: b,
+                rows: supports::rows(self.catalog, p, self.sizes[a], self.sizes[b]),
+            };
+            arcs[2 * p] = Some(there);
+            arcs[2 * p + 1] = Some(there.turned());
+        }
     }
-    if let Some((a, b)) = catalog.ends(p) {
-        let there = Arc {
-            near: a,
-            far: b,
-            rows: supports::rows(catalog, p, sizes[a], sizes[b]),
-        };
-        arcs[2 * p] = Some(there);
-        arcs[2 * p + 1] = Some(there.turned());
-    }
-}
 
-// Each constraint that `indices` names, kept both ways.
-#[tactic(auto, using(crate::proofs::Accepting::indices_each, crate::proofs::Keeping::filled_more, crate::proofs::Keeping::filled_all))]
-pub(crate) fn fill<C: Catalog>(
-    catalog: &C,
-    sizes: &[usize],
-    indices: &[usize],
-) -> [Option<Arc>; 256]
-    requires { indices_refusal (C.Catalog.meaning catalog.now) (length sizes.now) indices.now ≡ None }
-    ensures { Filled (C.Catalog.meaning catalog.now) sizes.now (named indices.now) result }
-{
-    let mut arcs = [None; 256];
-    for p in indices {
-        keep(catalog, sizes, *p, &mut arcs);
+    // Each constraint that is named, kept both ways.
+    #[tactic(auto, using(crate::proofs::Accepting::indices_each, crate::proofs::Keeping::filled_more, crate::proofs::Keeping::filled_all))]
+    pub(crate) fn fill(&self) -> [Option<Arc>; 256]
+        requires { indices_refusal (C.Catalog.meaning self.now.catalog.now) (length self.now.sizes.now) self.now.indices.now ≡ None }
+        ensures { Filled (C.Catalog.meaning self.now.catalog.now) self.now.sizes.now (named self.now.indices.now) result }
+    {
+        let mut arcs = [None; 256];
+        for p in self.indices {
+            self.keep(*p, &mut arcs);
+        }
+        arcs
     }
-    arcs
 }
 
 // Every value of every variable.
@@ -66,6 +65,7 @@ pub(crate) fn whole(sizes: &[usize], domains: &mut [u64])
     requires bounded { Bounded sizes.now }
     ensures { (i x : ℕ) → domains_of domains.new i x ≡ within_sizes sizes.now i x }
 {
+    // By index: of an adapter such as `domains.iter_mut().zip(sizes)` nothing is known after the loop.
     for (i, domain) in domains.iter_mut().enumerate() {
         *domain = bits::below(sizes[i]);
     }

@@ -8,21 +8,25 @@ ghost use Rattle.std.specs.Result.{result_err};
 
 use catalog::Catalog;
 use refusal::Refusal;
+use request::Request;
 
 mod accept;
 mod arc;
 mod fill;
+mod request;
 mod settle;
 
-// The work of a call that is not refused.
-fn write<C: Catalog>(catalog: &C, sizes: &[usize], indices: &[usize], out: &mut [u64])
-    requires { None ≡ refusal (C.Catalog.meaning catalog.now) sizes.now indices.now (length out.old) }
-    ensures { Written (C.Catalog.meaning catalog.now) sizes.now indices.now out.old out.new }
-{
-    let arcs = fill::fill(catalog, sizes, indices);
-    let domains = &mut out[0..sizes.len()];
-    fill::whole(sizes, domains);
-    settle::settle(&arcs, domains);
+impl<C: Catalog> Request<'_, C> {
+    // The work of a call that is not refused.
+    fn write(&self, out: &mut [u64])
+        requires { None ≡ refusal (C.Catalog.meaning self.now.catalog.now) self.now.sizes.now self.now.indices.now (length out.old) }
+        ensures { Written (C.Catalog.meaning self.now.catalog.now) self.now.sizes.now self.now.indices.now out.old out.new }
+    {
+        let arcs = self.fill();
+        let domains = &mut out[0..self.sizes.len()];
+        fill::whole(self.sizes, domains);
+        settle::settle(&arcs, domains);
+    }
 }
 
 // Writes the largest arc-consistent domains under the constraints that `indices` names, for variables of these sizes, into the first entries of
@@ -36,7 +40,12 @@ pub fn largest_domains<C: Catalog>(
     ensures refused { result_err result ≡ refusal (C.Catalog.meaning catalog.now) sizes.now indices.now (length out.old) }
     ensures cases { MatchResult result (λ _. Written (C.Catalog.meaning catalog.now) sizes.now indices.now out.old out.new) (λ _. out.new ≡ out.old) }
 {
-    accept::check(catalog, sizes, indices, out.len())?;
-    write(catalog, sizes, indices, out);
+    let request = Request {
+        catalog,
+        sizes,
+        indices,
+    };
+    request.check(out.len())?;
+    request.write(out);
     Ok(())
 }

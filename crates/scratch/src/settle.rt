@@ -43,6 +43,7 @@ fn pass(arcs: &[Option<Arc>], stale: u64, domains: &mut [u64]) -> u64
     ensures { Swept arcs.now stale (length arcs.now) domains.old domains.new result }
 {
     let mut next = 0;
+    // By place, as the arcs are told apart: with `arcs.iter().flatten()` the loop has no place to go by, and the proof did not close.
     for place in arcs {
         if let Some(arc) = place {
             if bits::has(stale, arc.far) && arc.revise(domains) {
