@@ -3,18 +3,20 @@ use Rattle.domains.specs.declared.TheConstants.{LAST_TIME}
 use Rattle.std.proofs.Common.{subst, ◌≡◌, ℕ, ◌<◌, ◌≤◌, min, true, false, cond, not, ◌&&◌, eqb, ltb, List, length, get_or, Some, None, Option, MatchOption, sym, refl, ap, ◌∙◌, ⊎_elim, arith}
 use Rattle.std.proofs.lemmas.List.{get_or_past}
 use Rattle.std.proofs.lemmas.Bool.{and_from, and_parts, cases_lt, cond-true, eq-eqb, eqb-false, lt-ltb, ltb-false, ltb-true, not_from_false, not-true}
-use Rattle.arcs.specs.Family.{Inside}
+use Rattle.arcs.specs.Family.{Consistent, Inside}
 use Rattle.arcs.specs.WipedOut.{Shown, WipedOut}
 use Rattle.bits.specs.Bits.{bit_at, has_bit}
 use Rattle.bits.proofs.Bitwise.{bit_of_zero, some_bit}
 use Rattle.domains.specs.declared.Constraints.{Constraints}
 use Rattle.domains.specs.declared.Domains.{Domains}
 use Rattle.domains.specs.declared.Justification.{Justification}
-use Rattle.domains.specs.Model.{is_present, left_of, right_of, shown, standing, total, within}
+use Rattle.domains.specs.Model.{arcs_of, is_present, left_of, right_of, shown, standing, total, within}
+use Rattle.domains.specs.Sound.{Shape, Sound}
 use Rattle.domains.specs.Stands.{Stands}
 use Rattle.domains.proofs.Entries.{total_inside}
-use Rattle.domains.proofs.Props.{stands_largest}
+use Rattle.domains.proofs.Props.{stands_largest, stands_out}
 use Rattle.domains.proofs.Setup.{all_shown, none_at, reopened, sizes_small, stands_open}
+use Rattle.engine.specs.declared.state.Engine.{Engine}
 use Rattle.engine.specs.Calls.{Loadable, can_add, can_load, can_retract, justification_of, Opened, Right}
 
 pub record Addable (c : Constraints) (d : Domains) (p room : ℕ) : Type 0 where
@@ -54,6 +56,14 @@ retractable c d p room returning e =
       returns = ltb-false returning 2048 (not-true (ltb returning 2048) g.0);
       time = ltb-false LAST_TIME d.clock (not-true (ltb LAST_TIME d.clock) g.1);
     }
+
+-- an engine's constraints and domains stand rightly together
+pub stood : (e : Engine) → Stands e.constraints e.domains
+stood e = stands_out e.constraints e.domains e.stands
+
+-- and so they do after a change, when the domains are consistent again
+pub stands_again : (c : Constraints) (d : Domains) → Shape c → Sound c d → Consistent (arcs_of c) (shown d) → ∥ Stands c d ∥₁
+stands_again c d shape sound consistent = ∣ record { shape = shape; sound = sound; consistent = consistent } ∣₁
 
 pub right_now : (c : Constraints) (d : Domains) → Stands c d → Right c d
 right_now c d s = record { largest = stands_largest c d s; justified = s.sound.justified; timed = s.sound.timed }

@@ -26,12 +26,13 @@ fn write(c: &mut Constraints, constraint: usize, left: usize, right: usize, rows
     ensures loaded { Loaded c.old c.new constraint left right rows.now }
     ensures shape { Shape c.new }
 {
+    let turned = supports::turned(rows);
     c.ends[constraint] = Ends {
         left: left as u8,
         right: right as u8,
     };
     c.rows[2 * constraint] = *rows;
-    c.rows[2 * constraint + 1] = supports::turned(rows);
+    c.rows[2 * constraint + 1] = turned;
 }
 
 impl Engine {

@@ -5,20 +5,15 @@ use Rattle.engine.proofs.values.put_back.Goals as goal
 pub returns : goal.returns
 returns c =
     let d = c.args.d.now in
-    let i = c.args.variable in
-    let x = c.args.value in
     record {
-      put = put_back d i x c.requires.variable c.requires.value c.requires.was;
+      put = put_back d c.args.variable c.args.value c.requires.variable c.requires.value c.requires.was;
       clock = refl;
       why = refl;
-      more = back_total d i x c.requires.variable c.requires.value c.requires.was;
-      others = sets_others d i x c.requires.variable c.requires.value _;
+      more = back_total d c.args.variable c.args.value c.requires.variable c.requires.value c.requires.was;
+      others = sets_others d c.args.variable c.args.value c.requires.variable c.requires.value _;
     }
 
 pub invariant_of-d : goal.invariant_of-d
 invariant_of-d c =
-    let d = c.args.d.now in
-    let i = c.args.variable in
-    let x = c.args.value in
-    let e = with_value d i x c.requires.variable c.requires.value in
+    let e = with_value c.args.d.now c.args.variable c.args.value c.requires.variable c.requires.value in
     record { sets_long = e.sets_long; why_long = e.why_long; each_why_long = e.each_why_long; wide = e.wide }

@@ -16,8 +16,5 @@ returns c =
 
 pub invariant_of-d : goal.invariant_of-d
 invariant_of-d c =
-    let d = c.args.d.now in
-    let i = c.args.variable in
-    let x = c.args.value in
-    let e = without d i x c.requires.variable c.requires.value c.args.constraint in
+    let e = without c.args.d.now c.args.variable c.args.value c.requires.variable c.requires.value c.args.constraint in
     record { sets_long = e.sets_long; why_long = e.why_long; each_why_long = e.each_why_long; wide = e.wide }

@@ -1,6 +1,5 @@
 use Rattle.std.proofs.Common.{length, refl, arith}
-use Rattle.domains.proofs.Props.{stands_out}
-use Rattle.engine.proofs.Called.{addable, right_now}
+use Rattle.engine.proofs.Called.{addable, right_now, stood}
 use Rattle.engine.proofs.state.Engine.add.Goals as goal
 
 pub returns-then-not-can_add : goal.returns-then-not-can_add
@@ -24,7 +23,7 @@ returns c =
       added =
           record {
             constraints = c.put_in.ensures.present;
-            right = right_now c.put_in.new.self.constraints c.put_in.new.self.domains (stands_out _ _ c.put_in.new.self.stands);
+            right = right_now c.put_in.new.self.constraints c.put_in.new.self.domains (stood c.put_in.new.self);
             went = c.put_in.ensures.went;
             count = omega (arith, c.put_in.ensures.went.later);
           };

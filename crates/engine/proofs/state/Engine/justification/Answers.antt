@@ -1,11 +1,10 @@
 use Rattle.std.proofs.Common.{◌<◌, get_or, arith}
-use Rattle.domains.proofs.Props.{stands_out}
-use Rattle.engine.proofs.Called.{asked_low, justified_by}
+use Rattle.engine.proofs.Called.{asked_low, justified_by, stood}
 use Rattle.engine.proofs.state.Engine.justification.Goals as goal
 
 pub read-requires : goal.read-requires
 read-requires c =
-    let s = stands_out c.args.self.now.constraints c.args.self.now.domains c.args.self.now.stands in
+    let s = stood c.args.self.now in
     let h : c.args.value < get_or c.args.self.now.constraints.sizes c.args.variable 0 = omega (arith, c.if-value-size.false, c.size.ensures) in
     record {
       variable = asked_low c.args.self.now.constraints c.args.self.now.domains c.args.variable c.args.value s h;

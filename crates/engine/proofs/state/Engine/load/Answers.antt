@@ -1,6 +1,5 @@
-use Rattle.domains.proofs.Props.{stands_out}
 use Rattle.domains.proofs.Setup.{stands_load}
-use Rattle.engine.proofs.Called.{loadable}
+use Rattle.engine.proofs.Called.{loadable, stood}
 use Rattle.engine.proofs.state.Engine.load.Goals as goal
 
 pub write-requires : goal.write-requires
@@ -8,7 +7,7 @@ write-requires c =
     let n = c.args.self.now.constraints in
     record {
       loadable = loadable n c.args.constraint c.args.left c.args.right c.if-not-can_load.ensures;
-      shape = (stands_out n c.args.self.now.domains c.args.self.now.stands).shape;
+      shape = (stood c.args.self.now).shape;
     }
 
 pub invariant_of-self : goal.invariant_of-self
@@ -16,4 +15,4 @@ invariant_of-self c =
     let n = c.args.self.now.constraints in
     let d = c.args.self.now.domains in
     let a = loadable n c.args.constraint c.args.left c.args.right c.if-not-can_load.ensures in
-    record { stands = ∣ stands_load n _ d c.args.constraint c.args.left c.args.right c.args.rows.now a.absent c.write.ensures.loaded c.write.ensures.shape (stands_out n d c.args.self.now.stands) ∣₁ }
+    record { stands = ∣ stands_load n _ d c.args.constraint c.args.left c.args.right c.args.rows.now a.absent c.write.ensures.loaded c.write.ensures.shape (stood c.args.self.now) ∣₁ }

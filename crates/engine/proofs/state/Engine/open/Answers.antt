@@ -1,6 +1,5 @@
 use Rattle.domains.proofs.Lengths.{same_data}
-use Rattle.domains.proofs.Props.{stands_out}
-use Rattle.engine.proofs.Called.{afresh_stands, afresh_opened}
+use Rattle.engine.proofs.Called.{afresh_opened, afresh_stands, stood}
 use Rattle.engine.proofs.state.Engine.open.Goals as goal
 
 pub invariant_of-self-3 : goal.invariant_of-self-3
@@ -11,7 +10,7 @@ invariant_of-self-4 c =
     let n = c.args.self.now.constraints in
     let d = c.args.self.now.domains in
     record {
-      stands = ∣ afresh_stands n d _ c.args.sizes.now c.capped-sizes.result (stands_out n d c.args.self.now.stands) c.capped-sizes.ensures.long
+      stands = ∣ afresh_stands n d _ c.args.sizes.now c.capped-sizes.result (stood c.args.self.now) c.capped-sizes.ensures.long
           c.capped-sizes.ensures.sizes c.full-sets.ensures.shown _ same_data ∣₁;
     }
 
@@ -19,5 +18,5 @@ pub returns : goal.returns
 returns c =
     let n = c.args.self.now.constraints in
     let d = c.args.self.now.domains in
-    afresh_opened n d _ c.args.sizes.now c.capped-sizes.result (stands_out n d c.args.self.now.stands) c.capped-sizes.ensures.long
+    afresh_opened n d _ c.args.sizes.now c.capped-sizes.result (stood c.args.self.now) c.capped-sizes.ensures.long
     c.capped-sizes.ensures.sizes c.full-sets.ensures.shown _ same_data

@@ -3,7 +3,7 @@ use Rattle.std.proofs.lemmas.List.{get_or-set_same, length-replicate}
 use Rattle.domains.specs.Sound.{Shape, Sound, Settled}
 use Rattle.domains.proofs.Lengths.{same_data}
 use Rattle.domains.proofs.Change.{shape_in, sound_in, settled_in, time_left}
-use Rattle.domains.proofs.Props.{stands_out}
+use Rattle.engine.proofs.Called.{stands_again, stood}
 use Rattle.engine.proofs.Start.{queued_start}
 use Rattle.engine.proofs.state.Engine.put_in.Goals as goal
 
@@ -18,31 +18,24 @@ pub propagate-requires : goal.propagate-requires
 propagate-requires c =
     let n = c.args.self.now.constraints in
     let d = c.args.self.now.domains in
-    let s = stands_out n d c.args.self.now.stands in
     let p = c.args.constraint in
     let long : length (replicate 128 false) ≡ 128 = length-replicate 128 false in
     let here : get_or c.enqueue.new.marks p false ≡ true =
     ap (λ m. get_or m p false) c.enqueue.ensures.marks ∙ get_or-set_same (replicate 128 false) p true false (omega (arith, long, c.requires.low))
     in
     record {
-      shape = subst Shape same_data (shape_in n d p c.requires.low s c.requires.apart);
-      sound = subst (λ k. Sound k d) same_data (sound_in n d p c.requires.low s);
+      shape = subst Shape same_data (shape_in n d p c.requires.low (stood c.args.self.now) c.requires.apart);
+      sound = subst (λ k. Sound k d) same_data (sound_in n d p c.requires.low (stood c.args.self.now));
       time = time_left d c.requires.time;
       queued = c.enqueue.ensures.queued;
-      settled = subst (λ k. Settled k d c.enqueue.new.marks) same_data (settled_in n d p c.requires.low s c.enqueue.new.marks here);
+      settled = subst (λ k. Settled k d c.enqueue.new.marks) same_data (settled_in n d p c.requires.low (stood c.args.self.now) c.enqueue.new.marks here);
     }
 
 pub invariant_of-self : goal.invariant_of-self
 invariant_of-self c =
-    let n = c.args.self.now.constraints in
-    let d = c.args.self.now.domains in
     record {
       stands =
-          ∣ record {
-            shape = subst Shape same_data (shape_in n d c.args.constraint c.requires.low (stands_out n d c.args.self.now.stands) c.requires.apart);
-            sound = c.propagate.ensures.sound;
-            consistent = c.propagate.ensures.consistent;
-          } ∣₁;
+          stands_again _ _ (subst Shape same_data (shape_in _ _ c.args.constraint c.requires.low (stood c.args.self.now) c.requires.apart)) c.propagate.ensures.sound c.propagate.ensures.consistent;
     }
 
 pub returns-clause-present : goal.returns-clause-present

@@ -1,6 +1,5 @@
 use Rattle.std.proofs.Common.{length, refl, arith}
-use Rattle.domains.proofs.Props.{stands_out}
-use Rattle.engine.proofs.Called.{retractable, right_now, more_shown}
+use Rattle.engine.proofs.Called.{more_shown, retractable, right_now, stood}
 use Rattle.engine.proofs.state.Engine.retract.Goals as goal
 
 pub returns-then-not-can_retract : goal.returns-then-not-can_retract
@@ -29,7 +28,7 @@ pub overflow_sub-result : goal.overflow_sub-result
 overflow_sub-result c = omega (
   arith,
   more_shown c.args.self.now.constraints c.take_out.new.self.constraints c.args.self.now.domains c.take_out.new.self.domains
-      (stands_out c.args.self.now.constraints c.args.self.now.domains c.args.self.now.stands) (stands_out _ _ c.take_out.new.self.stands) c.take_out.ensures.grew,
+      (stood c.args.self.now) (stood c.take_out.new.self) c.take_out.ensures.grew,
   c.count.ensures,
   c.count-before.ensures,
 )
@@ -41,7 +40,7 @@ returns c =
       retracted =
           record {
             constraints = c.take_out.ensures.absent;
-            right = right_now c.take_out.new.self.constraints c.take_out.new.self.domains (stands_out _ _ c.take_out.new.self.stands);
+            right = right_now c.take_out.new.self.constraints c.take_out.new.self.domains (stood c.take_out.new.self);
             grew = c.take_out.ensures.grew;
             kept = c.take_out.ensures.kept;
             later = c.take_out.ensures.later;
@@ -49,7 +48,7 @@ returns c =
             count = omega (
               arith,
               more_shown c.args.self.now.constraints c.take_out.new.self.constraints c.args.self.now.domains c.take_out.new.self.domains
-                  (stands_out c.args.self.now.constraints c.args.self.now.domains c.args.self.now.stands) (stands_out _ _ c.take_out.new.self.stands) c.take_out.ensures.grew,
+                  (stood c.args.self.now) (stood c.take_out.new.self) c.take_out.ensures.grew,
               c.count.ensures,
               c.count-before.ensures,
             );

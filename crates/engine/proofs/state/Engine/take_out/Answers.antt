@@ -6,7 +6,7 @@ use Rattle.domains.specs.Stands.{Stands, with_present}
 use Rattle.domains.proofs.Lengths.{same_data}
 use Rattle.domains.proofs.Change.{shape_out, sound_out, settled_out, grew_out, kept_out, time_left}
 use Rattle.domains.proofs.Entries.{total_few}
-use Rattle.domains.proofs.Props.{stands_out}
+use Rattle.engine.proofs.Called.{stands_again, stood}
 use Rattle.engine.proofs.Start.{queued_start}
 use Rattle.engine.proofs.state.Engine.take_out.Goals as goal
 
@@ -20,37 +20,35 @@ pub propagate-requires : goal.propagate-requires
 propagate-requires c =
     let n = c.args.self.now.constraints in
     let d = c.args.self.now.domains in
-    let s = stands_out n d c.args.self.now.stands in
     let d' = c.release_through.new.d in
     let p = c.args.constraint in
     record {
-      shape = subst Shape same_data (shape_out n d d' p c.requires.low s);
-      sound = subst (λ k. Sound k d') same_data (sound_out n d d' p c.requires.low s c.release_through.ensures.released c.release_through.ensures.clock c.release_through.ensures.inside);
+      shape = subst Shape same_data (shape_out n d d' p c.requires.low (stood c.args.self.now));
+      sound = subst (λ k. Sound k d') same_data (sound_out n d d' p c.requires.low (stood c.args.self.now) c.release_through.ensures.released c.release_through.ensures.clock c.release_through.ensures.inside);
       time = time_left d' (omega (arith, c.release_through.ensures.clock, c.requires.time));
       queued = c.enqueue_changed.ensures.queued;
-      settled = subst (λ k. Settled k d' c.enqueue_changed.new.marks) same_data (settled_out n d d' p c.requires.low s c.release_through.ensures.released c.release_through.ensures.clock c.enqueue_changed.new.marks c.enqueue_changed.ensures.waits);
+      settled = subst (λ k. Settled k d' c.enqueue_changed.new.marks) same_data (settled_out n d d' p c.requires.low (stood c.args.self.now) c.release_through.ensures.released c.release_through.ensures.clock c.enqueue_changed.new.marks c.enqueue_changed.ensures.waits);
     }
 
 pub returns : goal.returns
 returns c =
     let n = c.args.self.now.constraints in
     let d = c.args.self.now.domains in
-    let s = stands_out n d c.args.self.now.stands in
     let d' = c.release_through.new.d in
     let d'' = c.propagate.new.d in
     let p = c.args.constraint in
     let few : total d'.sets ≤ 64 * length d'.sets = total_few d'.sets d'.wide in
     let stands : Stands (with_present n p _) d'' =
     record {
-      shape = shape_out n d d' p c.requires.low s;
+      shape = shape_out n d d' p c.requires.low (stood c.args.self.now);
       sound = subst (λ k. Sound k d'') same_data c.propagate.ensures.sound;
       consistent = subst (λ k. Consistent (arcs_of k) (shown d'')) same_data c.propagate.ensures.consistent;
     }
     in
     record {
       absent = same_data;
-      kept = kept_out n d d' p c.requires.low s c.release_through.ensures.released c.release_through.ensures.clock d'' (subst (λ k. Went k d' d'') same_data c.propagate.ensures.went);
-      grew = grew_out n d d' p c.requires.low s c.release_through.ensures.released c.release_through.ensures.clock d'' stands;
+      kept = kept_out n d d' p c.requires.low (stood c.args.self.now) c.release_through.ensures.released c.release_through.ensures.clock d'' (subst (λ k. Went k d' d'') same_data c.propagate.ensures.went);
+      grew = grew_out n d d' p c.requires.low (stood c.args.self.now) c.release_through.ensures.released c.release_through.ensures.clock d'' stands;
       later = omega (arith, c.release_through.ensures.clock, c.propagate.ensures.went.later);
       soon = omega (arith, few, d'.sets_long, c.release_through.ensures.clock, c.propagate.ensures.went.spent);
       past = search rules;
@@ -58,17 +56,11 @@ returns c =
     }
 
 pub release_through-requires-clause-stands : goal.release_through-requires-clause-stands
-release_through-requires-clause-stands c = stands_out c.args.self.now.constraints c.args.self.now.domains c.args.self.now.stands
+release_through-requires-clause-stands c = stood c.args.self.now
 
 pub invariant_of-self : goal.invariant_of-self
 invariant_of-self c =
-    let n = c.args.self.now.constraints in
-    let d = c.args.self.now.domains in
     record {
       stands =
-          ∣ record {
-            shape = subst Shape same_data (shape_out n d c.release_through.new.d c.args.constraint c.requires.low (stands_out n d c.args.self.now.stands));
-            sound = c.propagate.ensures.sound;
-            consistent = c.propagate.ensures.consistent;
-          } ∣₁;
+          stands_again _ _ (subst Shape same_data (shape_out _ _ c.release_through.new.d c.args.constraint c.requires.low (stood c.args.self.now))) c.propagate.ensures.sound c.propagate.ensures.consistent;
     }
