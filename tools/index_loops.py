@@ -3,7 +3,8 @@
 
     tools/index_loops.py [COMMIT]
 
-A loop counts an index by hand where its counter stands between brackets in its body, or is handed to `get` or `get_mut`.
+A loop counts an index by hand where its counter stands between brackets in its body, or is handed to `get` or `get_mut`. Where it runs over a list, and the
+counter of `enumerate` reads or writes another list by place, it is said to go beside.
 Without COMMIT the files are read as they stand.
 """
 import re
@@ -27,14 +28,16 @@ def files(commit):
 
 def main():
     commit = sys.argv[1] if len(sys.argv) > 1 else None
-    totals = {'index': 0, 'range': 0, 'while': 0}
+    totals = {'index': 0, 'range': 0, 'while': 0, 'beside': 0}
     for name, lines in files(commit):
         for at, line in enumerate(lines):
             loop = re.match(r'( *)for ([a-z_]+) in [^{]*\.\.', line)
+            beside = re.match(r'( *)for \(([a-z_]+), [^{]*enumerate\(\)', line)
             other = re.match(r' *(while|loop)\b', line)
             if other:
                 kind = 'while'
-            elif loop:
+            elif loop or beside:
+                loop, wanted = (loop, 'index') if loop else (beside, 'beside')
                 counter = loop.group(2)
                 body = []
                 for later in lines[at + 1:]:
@@ -43,7 +46,9 @@ def main():
                     body.append(later)
                 text = '\n'.join(body)
                 indexed = rf'\[[^\]\n]*\b{counter}\b[^\]\n]*\]|get(_mut)?\([^)\n]*\b{counter}\b'
-                kind = 'index' if counter != '_' and re.search(indexed, text) else 'range'
+                kind = wanted if counter != '_' and re.search(indexed, text) else 'range'
+                if wanted == 'beside' and kind == 'range':
+                    continue
             else:
                 continue
             totals[kind] += 1

@@ -48,12 +48,6 @@ impl Pairs {
     }
 }
 
-const NO_VALUE: Returning = Returning {
-    variable: 0,
-    value: 0,
-    time: 0,
-};
-
 // An engine with its two rooms. They are arrays here and in a run, in the trials lists of full length, in the cases of a network lists of any length with
 // marks: one place for all would be a struct with a part for each.
 #[derive(Drop)]
@@ -68,7 +62,7 @@ impl Bench {
         Bench {
             engine: Engine::new(),
             waiting: [0; 128],
-            returning: [NO_VALUE; 2048],
+            returning: [Returning::default(); 2048],
         }
     }
 

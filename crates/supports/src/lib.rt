@@ -13,6 +13,7 @@ fn row<C: Catalog>(catalog: &C, p: usize, x: usize, size: usize) -> u64
     ensures { (y : ℕ) → has_bit result y ≡ (nat_lt y size && allowed (C.Catalog.meaning catalog.now) p x y) }
 {
     let mut row = 0;
+    // The number y is a value itself, of which the catalog is asked.
     for y in 0..size.min(64) {
         if catalog.allows(p, x, y) {
             row = bits::with(row, y);

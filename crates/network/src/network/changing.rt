@@ -1,5 +1,5 @@
-// Constraints go in and out. The two rooms are lent apart: the engine's add takes the first alone, and a struct of both would be built anew
-// at each call.
+// Constraints go in and out. The two rooms are two parameters in all of these functions, since the public calls take them so, and may be given rooms of
+// any length that lie anywhere; the engine's add takes the first alone.
 ghost use Rattle.std.specs.Prelude.{◌≡◌, false, length, IfOk, MatchResult, OnErr};
 ghost use Rattle.arcs.specs.WipedOut.{WipedOut};
 ghost use Rattle.domains.specs.Model.{shown};

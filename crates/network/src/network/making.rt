@@ -21,6 +21,8 @@ fn narrow(sizes: &[usize]) -> [u8; 32]
     ensures { (i : ℕ) → slice_index result i ≡ slice_index sizes.now i }
 {
     let mut all = [0; 32];
+    // By index: of an adapter such as `all.iter_mut().zip(sizes)` nothing is known after the loop, and of `array::from_fn` not that the captured slice is
+    // the same at each call.
     for (i, size) in sizes.iter().enumerate() {
         all[i] = *size as u8;
     }
