@@ -58,7 +58,7 @@ pub struct Justification {
 }
 
 // A value that came back, with the time of the justification that it had.
-#[derive(Clone, Copy, PartialEq, Eq, Debug)]
+#[derive(Clone, Copy, PartialEq, Eq, Debug, Default)]
 pub struct Returning {
     pub variable: u8,
     pub value: u8,

@@ -7,25 +7,47 @@ use domains::Justification;
 use network::Network;
 use network_law::Change;
 use refusal::Refusal;
-use rooms::Rooms;
+use rooms::{ENOUGH, Lengths, NOTHING, Rooms};
 use samples::Sample;
+use std::fmt;
+
+// A change, in words.
+#[derive(Clone, Copy)]
+struct InWords(Change);
+
+impl fmt::Display for InWords {
+    fn fmt<W: fmt::Write>(&self, f: &mut fmt::Formatter<W>) -> fmt::Result {
+        let values = self.0.values;
+        match self.0.wiped {
+            Some(i) => write!(f, "{values} values, {i} wiped out"),
+            None => write!(f, "{values} values"),
+        }
+    }
+}
+
+// Tells what a call did, or its refusal.
+fn tell<T: fmt::Display + Drop>(
+    rt: &HostRuntime,
+    call: &str,
+    outcome: Result<T, Refusal>,
+) -> anyhow::Result<()> {
+    match outcome {
+        Ok(done) => println!(rt; "  {call}: {done}")?,
+        Err(refusal) => println!(rt; "  {call}: {refusal}")?,
+    }
+    Ok(())
+}
 
 fn tell_change(
     rt: &HostRuntime,
     call: &str,
     outcome: Result<Change, Refusal>,
 ) -> anyhow::Result<()> {
-    match outcome {
-        Ok(change) => {
-            let values = change.values;
-            match change.wiped {
-                Some(i) => println!(rt; "  {call}: {values} values, {i} wiped out")?,
-                None => println!(rt; "  {call}: {values} values")?,
-            }
-        }
-        Err(refusal) => println!(rt; "  {call}: {refusal}")?,
-    }
-    Ok(())
+    tell(rt, call, outcome.map(InWords))
+}
+
+fn tell_opened(rt: &HostRuntime, call: &str, outcome: Result<(), Refusal>) -> anyhow::Result<()> {
+    tell(rt, call, outcome.map(|()| "opened"))
 }
 
 // Tells a question's refusal, if it is refused.
@@ -40,18 +62,10 @@ fn tell_refusal<T: Drop>(
     Ok(())
 }
 
-fn tell_opened(rt: &HostRuntime, call: &str, outcome: Result<(), Refusal>) -> anyhow::Result<()> {
-    match outcome {
-        Ok(()) => println!(rt; "  {call}: opened")?,
-        Err(refusal) => println!(rt; "  {call}: {refusal}")?,
-    }
-    Ok(())
-}
-
 fn unopened(rt: &HostRuntime) -> anyhow::Result<()> {
     println!(rt; "never opened")?;
     let mut network = Network::new(Sample::Chain);
-    let mut rooms = Rooms::lend(rt.alloc(), 128, 2048)?;
+    let mut rooms = Rooms::lend(rt.alloc(), ENOUGH)?;
     let Rooms { waiting, returning } = &mut rooms;
     tell_change(rt, "add 0", network.add(0, waiting, returning))?;
     tell_change(rt, "add 2", network.add(2, waiting, returning))?;
@@ -87,7 +101,7 @@ fn openings(rt: &HostRuntime) -> anyhow::Result<()> {
 fn last_times(rt: &HostRuntime) -> anyhow::Result<()> {
     println!(rt; "last times")?;
     let mut network = Network::new(Sample::Chain);
-    let mut rooms = Rooms::lend(rt.alloc(), 128, 2048)?;
+    let mut rooms = Rooms::lend(rt.alloc(), ENOUGH)?;
     let Rooms { waiting, returning } = &mut rooms;
     tell_opened(
         rt,
@@ -127,7 +141,7 @@ fn tell_kept(
 fn kept(rt: &HostRuntime) -> anyhow::Result<()> {
     println!(rt; "kept justifications")?;
     let mut network = Network::new(Sample::Chain);
-    let mut rooms = Rooms::lend(rt.alloc(), 128, 2048)?;
+    let mut rooms = Rooms::lend(rt.alloc(), ENOUGH)?;
     let Rooms { waiting, returning } = &mut rooms;
     tell_opened(rt, "sizes 3 3 3", network.open(&[3, 3, 3], 0))?;
     tell_change(rt, "add 0", network.add(0, waiting, returning))?;
@@ -149,33 +163,18 @@ fn kept(rt: &HostRuntime) -> anyhow::Result<()> {
     )
 }
 
-fn with_rooms(
-    rt: &HostRuntime,
-    name: &str,
-    waiting: usize,
-    returning: usize,
-) -> anyhow::Result<()> {
-    println!(rt; "{name}")?;
+fn with_rooms(rt: &HostRuntime, lengths: Lengths) -> anyhow::Result<()> {
+    let Lengths { waiting, returning } = lengths;
+    println!(rt; "rooms of {waiting} and {returning}")?;
     let mut network = Network::new(Sample::Chain);
-    let mut lent = Rooms::lend(rt.alloc(), waiting, returning)?;
+    let mut rooms = Rooms::lend(rt.alloc(), lengths)?;
     tell_opened(rt, "sizes 3 3 3", network.open(&[3, 3, 3], 0))?;
-    tell_change(
-        rt,
-        "add 0",
-        network.add(0, &mut lent.waiting, &mut lent.returning),
-    )?;
-    tell_change(
-        rt,
-        "add 1",
-        network.add(1, &mut lent.waiting, &mut lent.returning),
-    )?;
-    tell_change(
-        rt,
-        "retract 0",
-        network.retract(0, &mut lent.waiting, &mut lent.returning),
-    )?;
-    let whole = lent.as_lent_from(0, 0);
-    let past = lent.as_lent_from(128, 2048);
+    let Rooms { waiting, returning } = &mut rooms;
+    tell_change(rt, "add 0", network.add(0, waiting, returning))?;
+    tell_change(rt, "add 1", network.add(1, waiting, returning))?;
+    tell_change(rt, "retract 0", network.retract(0, waiting, returning))?;
+    let whole = rooms.as_lent_past(NOTHING);
+    let past = rooms.as_lent_past(ENOUGH);
     println!(rt; "  as lent: {whole}, past 128 and 2048 as lent: {past}")?;
     Ok(())
 }
@@ -185,8 +184,20 @@ fn main(rt: HostRuntime) -> anyhow::Result<()> {
     openings(&rt)?;
     last_times(&rt)?;
     kept(&rt)?;
-    with_rooms(&rt, "rooms of 127 and 2048", 127, 2048)?;
-    with_rooms(&rt, "rooms of 128 and 2047", 128, 2047)?;
-    with_rooms(&rt, "rooms of 128 and 2048", 128, 2048)?;
-    with_rooms(&rt, "rooms of 130 and 2050", 130, 2050)
+    let short_of_waiting = Lengths {
+        waiting: 127,
+        ..ENOUGH
+    };
+    let short_of_returning = Lengths {
+        returning: 2047,
+        ..ENOUGH
+    };
+    let longer = Lengths {
+        waiting: 130,
+        returning: 2050,
+    };
+    for lengths in [short_of_waiting, short_of_returning, ENOUGH, longer] {
+        with_rooms(&rt, lengths)?;
+    }
+    Ok(())
 }
