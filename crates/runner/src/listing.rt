@@ -8,6 +8,7 @@ use network::Call;
 use sheet_moves::Move;
 use std::alloc::{AllocError, Global};
 
+// No `From`: both types are other crates', of which neither sees the other.
 fn call_of<'a>(m: Move) -> Call<'a>
     ensures { (rooms : Rooms) → call_of rooms result ≡ move_call rooms m }
 {
@@ -35,7 +36,7 @@ fn add_moves(calls: &mut Vec<Call<'_>>, moves: &[Move]) -> Result<(), AllocError
     Ok(())
 }
 
-// adds a question for the domain of each variable below n
+// adds a question for the domain of each variable below n, which is asked by its number
 fn add_questions(calls: &mut Vec<Call<'_>>, n: usize) -> Result<(), AllocError>
     ensures { OnOk result ((rooms : Rooms) → calls_of rooms calls.new.items ≡ calls_of rooms calls.old.items ++ domains_asked n) }
 {
@@ -46,6 +47,8 @@ fn add_questions(calls: &mut Vec<Call<'_>>, n: usize) -> Result<(), AllocError>
 }
 
 // Open at time 0, make the moves, ask for each domain.
+// No chain of `once`, the moves' `map` and `(0..n).map(Call::Domain)`: it was tried, and a `map` by a function whose result names a lifetime that its
+// arguments do not is not covered by the toolchain.
 pub fn calls_for<'a>(
     heap: Global,
     sizes: &'a [usize],
