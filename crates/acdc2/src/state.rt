@@ -15,6 +15,8 @@ struct Variable {
     why: [Option<Justification>; 64],
 }
 
+// `present`, with `is_in` and `set_in`, is like that of the trials' `Book`, and shares no type with it: the book judges this solver, and a slip in
+// a shared type would be the same on both sides.
 #[derive(Drop)]
 pub struct State {
     variables: Vec<Variable>,
