@@ -2,7 +2,7 @@
 // then the surplus is filtered out again.
 use crate::Solver;
 use crate::arc::Arc;
-use crate::queue::Queue;
+use crate::marks::Marks;
 use crate::state::{Justification, State};
 use catalog::Catalog;
 use std::alloc::{AllocError, Global};
@@ -61,14 +61,6 @@ fn put_back<F: Fn(usize, Justification) -> bool>(
     restored
 }
 
-// Lets the set wait, if there is one.
-fn push(waiting: &mut Vec<Restored>, restored: Option<Restored>) -> Result<(), AllocError> {
-    if let Some(restored) = restored {
-        waiting.push(restored)?;
-    }
-    Ok(())
-}
-
 impl<C: Catalog> Solver<'_, C> {
     // Puts back every value of `u` that went out since it lost all supports in `v`.
     fn initialize(&mut self, u: usize, v: usize) -> Option<Restored> {
@@ -91,16 +83,16 @@ impl<C: Catalog> Solver<'_, C> {
         let catalog = self.catalog;
         let arcs = (0..128).filter_map(|p| Arc::toward(catalog, p, from.variable));
         for arc in arcs {
-            if self.state.is_in(arc.constraint) {
-                push(waiting, self.follow(arc, from))?;
+            if self.state.present.has(arc.constraint) {
+                waiting.extend(self.follow(arc, from))?;
             }
         }
         Ok(())
     }
 
     // Follows every set that waits, and gives the constraints at the variables that got values back.
-    fn restore(&mut self, waiting: &mut Vec<Restored>) -> Result<Queue, AllocError> {
-        let mut revise = Queue::empty();
+    fn restore(&mut self, waiting: &mut Vec<Restored>) -> Result<Marks, AllocError> {
+        let mut revise = Marks::none();
         for _ in 0..TURNS {
             let Some(from) = waiting.pop() else {
                 return Ok(revise);
@@ -119,9 +111,9 @@ impl<C: Catalog> Solver<'_, C> {
         (u, v): (usize, usize),
     ) -> Result<(), AllocError> {
         let mut waiting = Vec::new(heap);
-        push(&mut waiting, self.initialize(u, v))?;
-        push(&mut waiting, self.initialize(v, u))?;
-        self.state.set_in(p, false);
+        waiting.extend(self.initialize(u, v))?;
+        waiting.extend(self.initialize(v, u))?;
+        self.state.present.set(p, false);
         let revise = self.restore(&mut waiting)?;
         self.filter(revise);
         Ok(())

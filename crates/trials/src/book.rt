@@ -20,8 +20,8 @@ pub enum Call {
     Retract(usize),
 }
 
-// `present`, with `is_in` and `set_in`, is like that of the solver `acdc2`, and shares no type with it: the book judges that solver, and a slip in a
-// shared type would be the same on both sides.
+// `present`, with `is_in` and `set_in`, is like `Marks` of the solver `acdc2`, and shares no type with it: the book judges that solver, and a slip in
+// a shared type would be the same on both sides.
 #[derive(Drop)]
 pub struct Book {
     pub sizes: Vec<usize>,
