@@ -1,13 +1,15 @@
 // Prints what a network answers at its limits: before it is opened, at the last times, and with rooms that are too short or longer than needed.
 #![tactic(auto)]
 
+mod case;
 mod rooms;
 
+use case::Case;
 use domains::Justification;
 use network::Network;
 use network_law::Change;
 use refusal::Refusal;
-use rooms::{ENOUGH, Lengths, NOTHING, Rooms};
+use rooms::{ENOUGH, Lengths, NOTHING};
 use samples::Sample;
 use std::fmt;
 
@@ -64,17 +66,15 @@ fn tell_refusal<T: Drop>(
 
 fn unopened(rt: &HostRuntime) -> anyhow::Result<()> {
     println!(rt; "never opened")?;
-    let mut network = Network::new(Sample::Chain);
-    let mut rooms = Rooms::lend(rt.alloc(), ENOUGH)?;
-    let Rooms { waiting, returning } = &mut rooms;
-    tell_change(rt, "add 0", network.add(0, waiting, returning))?;
-    tell_change(rt, "add 2", network.add(2, waiting, returning))?;
-    tell_change(rt, "retract 0", network.retract(0, waiting, returning))?;
-    tell_change(rt, "retract 2", network.retract(2, waiting, returning))?;
-    tell_refusal(rt, "domain 0", network.domain(0))?;
-    tell_refusal(rt, "shown 0 0", network.is_shown(0, 0))?;
-    tell_refusal(rt, "justification 0 0", network.justification(0, 0))?;
-    if network.wiped_out().is_none() {
+    let mut chain = Case::new(rt.alloc(), ENOUGH)?;
+    tell_change(rt, "add 0", chain.add(0))?;
+    tell_change(rt, "add 2", chain.add(2))?;
+    tell_change(rt, "retract 0", chain.retract(0))?;
+    tell_change(rt, "retract 2", chain.retract(2))?;
+    tell_refusal(rt, "domain 0", chain.network.domain(0))?;
+    tell_refusal(rt, "shown 0 0", chain.network.is_shown(0, 0))?;
+    tell_refusal(rt, "justification 0 0", chain.network.justification(0, 0))?;
+    if chain.network.wiped_out().is_none() {
         println!(rt; "  wiped out: none")?;
     }
     Ok(())
@@ -100,26 +100,24 @@ fn openings(rt: &HostRuntime) -> anyhow::Result<()> {
 
 fn last_times(rt: &HostRuntime) -> anyhow::Result<()> {
     println!(rt; "last times")?;
-    let mut network = Network::new(Sample::Chain);
-    let mut rooms = Rooms::lend(rt.alloc(), ENOUGH)?;
-    let Rooms { waiting, returning } = &mut rooms;
+    let mut chain = Case::new(rt.alloc(), ENOUGH)?;
     tell_opened(
         rt,
         "open at 4294965247",
-        network.open(&[3, 3, 3], 4_294_965_247),
+        chain.network.open(&[3, 3, 3], 4_294_965_247),
     )?;
-    tell_change(rt, "add 0", network.add(0, waiting, returning))?;
-    tell_change(rt, "add 1", network.add(1, waiting, returning))?;
-    tell_change(rt, "add 0", network.add(0, waiting, returning))?;
-    tell_change(rt, "retract 0", network.retract(0, waiting, returning))?;
-    tell_change(rt, "retract 1", network.retract(1, waiting, returning))?;
+    tell_change(rt, "add 0", chain.add(0))?;
+    tell_change(rt, "add 1", chain.add(1))?;
+    tell_change(rt, "add 0", chain.add(0))?;
+    tell_change(rt, "retract 0", chain.retract(0))?;
+    tell_change(rt, "retract 1", chain.retract(1))?;
     tell_opened(
         rt,
         "open at 4294965248",
-        network.open(&[3, 3, 3], 4_294_965_248),
+        chain.network.open(&[3, 3, 3], 4_294_965_248),
     )?;
-    tell_change(rt, "add 0", network.add(0, waiting, returning))?;
-    tell_change(rt, "add 2", network.add(2, waiting, returning))?;
+    tell_change(rt, "add 0", chain.add(0))?;
+    tell_change(rt, "add 2", chain.add(2))?;
     Ok(())
 }
 
@@ -140,41 +138,37 @@ fn tell_kept(
 // Retracting constraint 0 of the chain leaves what rests on constraint 1 alone.
 fn kept(rt: &HostRuntime) -> anyhow::Result<()> {
     println!(rt; "kept justifications")?;
-    let mut network = Network::new(Sample::Chain);
-    let mut rooms = Rooms::lend(rt.alloc(), ENOUGH)?;
-    let Rooms { waiting, returning } = &mut rooms;
-    tell_opened(rt, "sizes 3 3 3", network.open(&[3, 3, 3], 0))?;
-    tell_change(rt, "add 0", network.add(0, waiting, returning))?;
-    tell_change(rt, "add 1", network.add(1, waiting, returning))?;
-    let first = network.justification(1, 2);
-    let second = network.justification(2, 0);
-    tell_change(rt, "retract 0", network.retract(0, waiting, returning))?;
+    let mut chain = Case::new(rt.alloc(), ENOUGH)?;
+    tell_opened(rt, "sizes 3 3 3", chain.network.open(&[3, 3, 3], 0))?;
+    tell_change(rt, "add 0", chain.add(0))?;
+    tell_change(rt, "add 1", chain.add(1))?;
+    let first = chain.network.justification(1, 2);
+    let second = chain.network.justification(2, 0);
+    tell_change(rt, "retract 0", chain.retract(0))?;
     tell_kept(
         rt,
         "value 2 of variable 1",
         first,
-        network.justification(1, 2),
+        chain.network.justification(1, 2),
     )?;
     tell_kept(
         rt,
         "value 0 of variable 2",
         second,
-        network.justification(2, 0),
+        chain.network.justification(2, 0),
     )
 }
 
 fn with_rooms(rt: &HostRuntime, lengths: Lengths) -> anyhow::Result<()> {
     let Lengths { waiting, returning } = lengths;
     println!(rt; "rooms of {waiting} and {returning}")?;
-    let mut network = Network::new(Sample::Chain);
-    let mut rooms = Rooms::lend(rt.alloc(), lengths)?;
-    tell_opened(rt, "sizes 3 3 3", network.open(&[3, 3, 3], 0))?;
-    let Rooms { waiting, returning } = &mut rooms;
-    tell_change(rt, "add 0", network.add(0, waiting, returning))?;
-    tell_change(rt, "add 1", network.add(1, waiting, returning))?;
-    tell_change(rt, "retract 0", network.retract(0, waiting, returning))?;
-    let whole = rooms.as_lent_past(NOTHING);
-    let past = rooms.as_lent_past(ENOUGH);
+    let mut chain = Case::new(rt.alloc(), lengths)?;
+    tell_opened(rt, "sizes 3 3 3", chain.network.open(&[3, 3, 3], 0))?;
+    tell_change(rt, "add 0", chain.add(0))?;
+    tell_change(rt, "add 1", chain.add(1))?;
+    tell_change(rt, "retract 0", chain.retract(0))?;
+    let whole = chain.rooms.as_lent_past(NOTHING);
+    let past = chain.rooms.as_lent_past(ENOUGH);
     println!(rt; "  as lent: {whole}, past 128 and 2048 as lent: {past}")?;
     Ok(())
 }
