@@ -1,8 +1,8 @@
 // The calls of a run, listed.
-ghost use Rattle.std.specs.Prelude.{◌≡◌, [], ◌∷◌, ◌++◌, map, length, IfOk, OnOk};
+ghost use Rattle.std.specs.Prelude.{◌≡◌, [], ◌∷◌, map, IfOk, OnOk};
 ghost use Rattle.network_law.specs.Calls.{Rooms};
 ghost use Rattle.network.specs.Requests.{call_of, calls_of};
-ghost use Rattle.runner.specs.Runs.{move_call, domains_asked, calls_for};
+ghost use Rattle.runner.specs.Runs.{Adds, move_call, domains_asked, calls_for};
 
 use network::Call;
 use sheet_moves::Move;
@@ -20,7 +20,7 @@ fn call_of<'a>(m: Move) -> Call<'a>
 
 // adds a call
 fn add_call<'a>(calls: &mut Vec<Call<'a>>, call: Call<'a>) -> Result<(), AllocError>
-    ensures { OnOk result ((rooms : Rooms) → calls_of rooms calls.new.items ≡ calls_of rooms calls.old.items ++ (call_of rooms call.entry ∷ [])) }
+    ensures { OnOk result (Adds calls.old.items calls.new.items (λ rooms. call_of rooms call.entry ∷ [])) }
 {
     calls.push(call)?;
     Ok(())
@@ -28,7 +28,7 @@ fn add_call<'a>(calls: &mut Vec<Call<'a>>, call: Call<'a>) -> Result<(), AllocEr
 
 // adds the moves, as calls
 fn add_moves(calls: &mut Vec<Call<'_>>, moves: &[Move]) -> Result<(), AllocError>
-    ensures { OnOk result ((rooms : Rooms) → calls_of rooms calls.new.items ≡ calls_of rooms calls.old.items ++ map (move_call rooms) moves.now) }
+    ensures { OnOk result (Adds calls.old.items calls.new.items (λ rooms. map (move_call rooms) moves.now)) }
 {
     for m in moves {
         add_call(calls, call_of(*m))?;
@@ -38,7 +38,7 @@ fn add_moves(calls: &mut Vec<Call<'_>>, moves: &[Move]) -> Result<(), AllocError
 
 // adds a question for the domain of each variable below n, which is asked by its number
 fn add_questions(calls: &mut Vec<Call<'_>>, n: usize) -> Result<(), AllocError>
-    ensures { OnOk result ((rooms : Rooms) → calls_of rooms calls.new.items ≡ calls_of rooms calls.old.items ++ domains_asked n) }
+    ensures { OnOk result (Adds calls.old.items calls.new.items (λ _. domains_asked n)) }
 {
     for i in 0..n {
         add_call(calls, Call::Domain(i))?;
