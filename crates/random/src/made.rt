@@ -1,4 +1,4 @@
-// Catalogs and numberings drawn from a generator.
+// Catalogs and numberings drawn from a generator. The generator and the span stay two parameters, since the three public functions take them so.
 ghost use Rattle.std.specs.Prelude.{length, ◌≡◌, ◌≤◌};
 ghost use Rattle.random.specs.Constraints.{LieBelow};
 
