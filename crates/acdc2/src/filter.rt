@@ -1,7 +1,7 @@
 // Filtering: AC-3, keeping for each value that it puts out the neighbour and the time.
 use crate::Solver;
 use crate::arc::Arc;
-use crate::queue::Queue;
+use crate::marks::Marks;
 use catalog::Catalog;
 
 // More turns than filtering can take: each of 2,048 values goes out at most once, and each time fewer than 128 constraints begin to wait.
@@ -9,12 +9,14 @@ const TURNS: usize = 128 * 2049;
 
 impl<C: Catalog> Solver<'_, C> {
     // Lets every constraint that is in and ties `u` wait, but for `except`.
-    pub(crate) fn schedule(&self, u: usize, except: Option<usize>, queue: &mut Queue) {
+    pub(crate) fn schedule(&self, u: usize, except: Option<usize>, waiting: &mut Marks) {
         let ties = |p: &usize| {
-            self.state.is_in(*p) && except != Some(*p) && Arc::toward(self.catalog, *p, u).is_some()
+            self.state.present.has(*p)
+                && except != Some(*p)
+                && Arc::toward(self.catalog, *p, u).is_some()
         };
         for p in (0..128).filter(ties) {
-            queue.mark(p);
+            waiting.set(p, true);
         }
     }
 
@@ -31,21 +33,21 @@ impl<C: Catalog> Solver<'_, C> {
     }
 
     // Filters the near variable, and if it lost a value lets the other constraints at it wait.
-    fn revise(&mut self, arc: Arc, queue: &mut Queue) {
+    fn revise(&mut self, arc: Arc, waiting: &mut Marks) {
         if self.filter_arc(arc) {
-            self.schedule(arc.near, Some(arc.constraint), queue);
+            self.schedule(arc.near, Some(arc.constraint), waiting);
         }
     }
 
     // Revises the constraints that wait, and those that begin to wait on the way, until none does.
-    pub(crate) fn filter(&mut self, mut queue: Queue) {
+    pub(crate) fn filter(&mut self, mut waiting: Marks) {
         for _ in 0..TURNS {
-            let Some(p) = queue.take() else {
+            let Some(p) = waiting.take() else {
                 return;
             };
             if let Some(ends) = self.catalog.ends(p) {
                 for arc in Arc::both(p, ends) {
-                    self.revise(arc, &mut queue);
+                    self.revise(arc, &mut waiting);
                 }
             }
         }

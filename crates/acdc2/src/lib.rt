@@ -1,7 +1,8 @@
 // A second solver, for trials against the first: the published algorithm AC|DC-2, arc by arc, with a neighbouring variable and a time as the
-// justification of each value that is out. It shares no code with the engine but the catalogs and the sets of bits.
+// justification of each value that is out. It shares no code with the engine but the catalogs, the sets of bits and the names of the causes of refusal.
 //
-// Proved of it: that it is safe and that every call ends. That its domains are the largest is only tried, by comparison.
+// Proved of it: that it is safe, that every call ends, and that a refused call leaves it as it was. That its domains are the largest is only tried, by
+// comparison.
 //
 // The algorithm is published for one constraint on each pair of variables. Here several may join one pair, and each is judged by itself:
 // filtering asks for a support under each constraint alone, so the domains are those of all constraints and not of their conjunction. A
@@ -10,14 +11,21 @@
 // that did put it out is among them. The filtering at the end puts the surplus out again.
 #![tactic(auto)]
 
+ghost use Rattle.std.specs.Prelude.{◌≡◌, Err, OnErr};
+ghost use Rattle.refusal.specs.declared.Refusal.{Refusal};
+ghost use Rattle.acdc2.specs.declared.fault.Fault.TheVariants.{Refused};
+
 use catalog::Catalog;
-use queue::Queue;
+use fault::Fault;
+use marks::Marks;
+use refusal::Refusal;
 use state::{Justification, State};
 use std::alloc::{AllocError, Global};
 
 mod arc;
+pub mod fault;
 mod filter;
-mod queue;
+mod marks;
 mod restore;
 pub mod state;
 
@@ -38,29 +46,33 @@ impl<'a, C: Catalog> Solver<'a, C> {
         Ok(Solver { catalog, state })
     }
 
-    // Adds the constraint `p`. No, and nothing is done, where there is none, where an end is not one of the variables, or where it is in.
-    pub fn add(&mut self, p: usize) -> bool {
-        let Some((a, b)) = self.catalog.ends(p) else {
-            return false;
-        };
-        if a >= self.state.count() || b >= self.state.count() || self.state.is_in(p) {
-            return false;
+    // Adds the constraint `p`. Refused, and nothing is done, where there is none, where an end is not one of the variables, or where it is in.
+    pub fn add(&mut self, p: usize) -> Result<(), Refusal>
+        ensures { OnErr result (self.new.state ≡ self.old.state) }
+    {
+        let (a, b) = self.catalog.ends(p).ok_or(Refusal::NoSuchConstraint)?;
+        if a >= self.state.count() || b >= self.state.count() {
+            return Err(Refusal::EndOutside);
         }
-        self.state.set_in(p, true);
-        self.filter(Queue::only(p));
-        true
+        if self.state.present.has(p) {
+            return Err(Refusal::AlreadyIn);
+        }
+        self.state.present.set(p, true);
+        self.filter(Marks::only(p));
+        Ok(())
     }
 
-    // Retracts the constraint `p`. No, and nothing is done, where it is not in. Without memory the solver is left half-way: open another.
-    pub fn retract(&mut self, heap: Global, p: usize) -> Result<bool, AllocError> {
-        let Some(ends) = self.catalog.ends(p) else {
-            return Ok(false);
-        };
-        if !self.state.is_in(p) {
-            return Ok(false);
+    // Retracts the constraint `p`. Refused, and nothing is done, where there is none or where it is not in. Without memory the solver is left half-way:
+    // open another.
+    pub fn retract(&mut self, heap: Global, p: usize) -> Result<(), Fault>
+        ensures { (refusal : Refusal) → result ≡ Err (Refused refusal) → self.new.state ≡ self.old.state }
+    {
+        let ends = self.catalog.ends(p).ok_or(Refusal::NoSuchConstraint)?;
+        if !self.state.present.has(p) {
+            return Err(Fault::Refused(Refusal::NotIn));
         }
         self.take_out(heap, p, ends)?;
-        Ok(true)
+        Ok(())
     }
 
     // The domain of the variable `i`: bit x for the value x. Empty where there is no such variable.

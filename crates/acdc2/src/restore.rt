@@ -2,15 +2,15 @@
 // then the surplus is filtered out again.
 use crate::Solver;
 use crate::arc::Arc;
-use crate::queue::Queue;
+use crate::marks::Marks;
 use crate::state::{Justification, State};
 use catalog::Catalog;
 use std::alloc::{AllocError, Global};
 
-// More turns than restoring can take: each of 2,048 values comes back at most once, and no empty set waits.
+// More turns than restoring can take: each of 2,048 values comes back at most once, and each set that waits has one of them.
 const TURNS: usize = 2049;
 
-// Values of one variable that came back together, and the least time at which one of them had gone out: the greatest there is, while there are none.
+// Values of one variable that came back together, one or more, and the least time at which one of them had gone out.
 #[derive(Clone, Copy)]
 struct Restored {
     variable: usize,
@@ -19,11 +19,12 @@ struct Restored {
 }
 
 impl Restored {
-    fn nothing(variable: usize) -> Restored {
+    // The value `d` of the variable `u` alone, which was out for that reason.
+    fn only(u: usize, d: usize, why: Justification) -> Restored {
         Restored {
-            variable,
-            time: u64::MAX,
-            values: 0,
+            variable: u,
+            time: why.time,
+            values: bits::with(0, d),
         }
     }
 
@@ -37,39 +38,38 @@ impl Restored {
     }
 }
 
-// Puts back every value of `u` that is out for a reason that the test accepts. A loop and no filter, since it changes the state that it reads.
-fn put_back<F: Fn(usize, Justification) -> bool>(state: &mut State, u: usize, test: F) -> Restored
+// Puts back every value of `u` that is out for a reason that the test accepts, if there is any. A loop and no filter, since it changes the state that it reads.
+fn put_back<F: Fn(usize, Justification) -> bool>(
+    state: &mut State,
+    u: usize,
+    test: F,
+) -> Option<Restored>
     requires { F.IsAlwaysCallable test }
 {
-    let mut restored = Restored::nothing(u);
+    let mut restored: Option<Restored> = None;
     for d in 0..64 {
         if let Some(why) = state.why(u, d) {
             if test(d, why) {
                 state.put_back(u, d);
-                restored = restored.with(d, why);
+                restored = Some(match restored {
+                    Some(others) => others.with(d, why),
+                    None => Restored::only(u, d, why),
+                });
             }
         }
     }
     restored
 }
 
-// Lets the set wait, unless it is empty: nothing follows from an empty one.
-fn push(waiting: &mut Vec<Restored>, restored: Restored) -> Result<(), AllocError> {
-    if restored.values != 0 {
-        waiting.push(restored)?;
-    }
-    Ok(())
-}
-
 impl<C: Catalog> Solver<'_, C> {
     // Puts back every value of `u` that went out since it lost all supports in `v`.
-    fn initialize(&mut self, u: usize, v: usize) -> Restored {
+    fn initialize(&mut self, u: usize, v: usize) -> Option<Restored> {
         put_back(&mut self.state, u, |_, why| why.neighbour == v)
     }
 
     // `from` holds values of the arc's far variable. Puts back every value of the near one that went out because of the far one, later than the first
     // of `from` did, and that has a support in `from`.
-    fn follow(&mut self, arc: Arc, from: Restored) -> Restored {
+    fn follow(&mut self, arc: Arc, from: Restored) -> Option<Restored> {
         let catalog = self.catalog;
         put_back(&mut self.state, arc.near, |d, why| {
             why.neighbour == arc.far
@@ -83,16 +83,16 @@ impl<C: Catalog> Solver<'_, C> {
         let catalog = self.catalog;
         let arcs = (0..128).filter_map(|p| Arc::toward(catalog, p, from.variable));
         for arc in arcs {
-            if self.state.is_in(arc.constraint) {
-                push(waiting, self.follow(arc, from))?;
+            if self.state.present.has(arc.constraint) {
+                waiting.extend(self.follow(arc, from))?;
             }
         }
         Ok(())
     }
 
     // Follows every set that waits, and gives the constraints at the variables that got values back.
-    fn restore(&mut self, waiting: &mut Vec<Restored>) -> Result<Queue, AllocError> {
-        let mut revise = Queue::empty();
+    fn restore(&mut self, waiting: &mut Vec<Restored>) -> Result<Marks, AllocError> {
+        let mut revise = Marks::none();
         for _ in 0..TURNS {
             let Some(from) = waiting.pop() else {
                 return Ok(revise);
@@ -111,9 +111,9 @@ impl<C: Catalog> Solver<'_, C> {
         (u, v): (usize, usize),
     ) -> Result<(), AllocError> {
         let mut waiting = Vec::new(heap);
-        push(&mut waiting, self.initialize(u, v))?;
-        push(&mut waiting, self.initialize(v, u))?;
-        self.state.set_in(p, false);
+        waiting.extend(self.initialize(u, v))?;
+        waiting.extend(self.initialize(v, u))?;
+        self.state.present.set(p, false);
         let revise = self.restore(&mut waiting)?;
         self.filter(revise);
         Ok(())

@@ -1,4 +1,5 @@
 // What the solver keeps of its variables and constraints.
+use crate::marks::Marks;
 use std::alloc::{AllocError, Global};
 
 // Why a value is out: the first neighbouring variable in which it lost all supports, and when.
@@ -15,10 +16,12 @@ struct Variable {
     why: [Option<Justification>; 64],
 }
 
+// The variables, the constraints that are in, and the time. A variable and a value of it are two numbers throughout, as in the public questions: most
+// loops run over the values of one variable.
 #[derive(Drop)]
 pub struct State {
     variables: Vec<Variable>,
-    present: [bool; 128],
+    pub(crate) present: Marks,
     clock: u64,
 }
 
@@ -40,7 +43,7 @@ impl State {
                 .iter()
                 .map(|size| Variable::whole(*size))
                 .collect(heap)?,
-            present: [false; 128],
+            present: Marks::none(),
             clock: 0,
         })
     }
@@ -48,16 +51,6 @@ impl State {
     // How many variables there are.
     pub(crate) fn count(&self) -> usize {
         self.variables.len()
-    }
-
-    pub(crate) fn is_in(&self, p: usize) -> bool {
-        self.present.get(p).copied().unwrap_or(false)
-    }
-
-    pub(crate) fn set_in(&mut self, p: usize, now_in: bool) {
-        if let Some(place) = self.present.get_mut(p) {
-            *place = now_in;
-        }
     }
 
     // The values of `u` that are shown.

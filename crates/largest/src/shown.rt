@@ -1,8 +1,8 @@
 // One case: what the call gives, on a line for each variable.
 ghost use Rattle.std.specs.Prelude.{◌≡◌, count_by, nat_eq};
 
-use bits::Values;
 use catalog::Catalog;
+use run_text::domain_line;
 use scratch::largest_domains;
 use std::io;
 use wiped::wiped_out;
@@ -20,8 +20,7 @@ fn count_of(value: u64, list: &[u64]) -> usize
 // A line for each domain, and one that names the wiped-out variable.
 fn print_domains(rt: &HostRuntime, domains: &[u64]) -> io::Result<()> {
     for (i, domain) in domains.iter().enumerate() {
-        let values = Values(*domain);
-        println!(rt; "at {i}{values}")?;
+        rt.println(domain_line(rt.alloc(), i, *domain)?)?;
     }
     match wiped_out(domains) {
         Some(i) => println!(rt; "wiped out {i}"),

@@ -1,31 +1,55 @@
 // Prints what a network answers at its limits: before it is opened, at the last times, and with rooms that are too short or longer than needed.
 #![tactic(auto)]
 
+mod case;
 mod rooms;
 
+use case::Case;
 use domains::Justification;
 use network::Network;
 use network_law::Change;
 use refusal::Refusal;
-use rooms::Rooms;
+use rooms::{ENOUGH, Lengths, NOTHING};
 use samples::Sample;
+use std::fmt;
+
+// A change, in words.
+#[derive(Clone, Copy)]
+struct InWords(Change);
+
+impl fmt::Display for InWords {
+    fn fmt<W: fmt::Write>(&self, f: &mut fmt::Formatter<W>) -> fmt::Result {
+        let values = self.0.values;
+        match self.0.wiped {
+            Some(i) => write!(f, "{values} values, {i} wiped out"),
+            None => write!(f, "{values} values"),
+        }
+    }
+}
+
+// Tells what a call did, or its refusal.
+fn tell<T: fmt::Display + Drop>(
+    rt: &HostRuntime,
+    call: &str,
+    outcome: Result<T, Refusal>,
+) -> anyhow::Result<()> {
+    match outcome {
+        Ok(done) => println!(rt; "  {call}: {done}")?,
+        Err(refusal) => println!(rt; "  {call}: {refusal}")?,
+    }
+    Ok(())
+}
 
 fn tell_change(
     rt: &HostRuntime,
     call: &str,
     outcome: Result<Change, Refusal>,
 ) -> anyhow::Result<()> {
-    match outcome {
-        Ok(change) => {
-            let values = change.values;
-            match change.wiped {
-                Some(i) => println!(rt; "  {call}: {values} values, {i} wiped out")?,
-                None => println!(rt; "  {call}: {values} values")?,
-            }
-        }
-        Err(refusal) => println!(rt; "  {call}: {refusal}")?,
-    }
-    Ok(())
+    tell(rt, call, outcome.map(InWords))
+}
+
+fn tell_opened(rt: &HostRuntime, call: &str, outcome: Result<(), Refusal>) -> anyhow::Result<()> {
+    tell(rt, call, outcome.map(|()| "opened"))
 }
 
 // Tells a question's refusal, if it is refused.
@@ -40,27 +64,17 @@ fn tell_refusal<T: Drop>(
     Ok(())
 }
 
-fn tell_opened(rt: &HostRuntime, call: &str, outcome: Result<(), Refusal>) -> anyhow::Result<()> {
-    match outcome {
-        Ok(()) => println!(rt; "  {call}: opened")?,
-        Err(refusal) => println!(rt; "  {call}: {refusal}")?,
-    }
-    Ok(())
-}
-
 fn unopened(rt: &HostRuntime) -> anyhow::Result<()> {
     println!(rt; "never opened")?;
-    let mut network = Network::new(Sample::Chain);
-    let mut rooms = Rooms::lend(rt.alloc(), 128, 2048)?;
-    let Rooms { waiting, returning } = &mut rooms;
-    tell_change(rt, "add 0", network.add(0, waiting, returning))?;
-    tell_change(rt, "add 2", network.add(2, waiting, returning))?;
-    tell_change(rt, "retract 0", network.retract(0, waiting, returning))?;
-    tell_change(rt, "retract 2", network.retract(2, waiting, returning))?;
-    tell_refusal(rt, "domain 0", network.domain(0))?;
-    tell_refusal(rt, "shown 0 0", network.is_shown(0, 0))?;
-    tell_refusal(rt, "justification 0 0", network.justification(0, 0))?;
-    if network.wiped_out().is_none() {
+    let mut chain = Case::new(rt.alloc(), ENOUGH)?;
+    tell_change(rt, "add 0", chain.add(0))?;
+    tell_change(rt, "add 2", chain.add(2))?;
+    tell_change(rt, "retract 0", chain.retract(0))?;
+    tell_change(rt, "retract 2", chain.retract(2))?;
+    tell_refusal(rt, "domain 0", chain.network.domain(0))?;
+    tell_refusal(rt, "shown 0 0", chain.network.is_shown(0, 0))?;
+    tell_refusal(rt, "justification 0 0", chain.network.justification(0, 0))?;
+    if chain.network.wiped_out().is_none() {
         println!(rt; "  wiped out: none")?;
     }
     Ok(())
@@ -86,26 +100,24 @@ fn openings(rt: &HostRuntime) -> anyhow::Result<()> {
 
 fn last_times(rt: &HostRuntime) -> anyhow::Result<()> {
     println!(rt; "last times")?;
-    let mut network = Network::new(Sample::Chain);
-    let mut rooms = Rooms::lend(rt.alloc(), 128, 2048)?;
-    let Rooms { waiting, returning } = &mut rooms;
+    let mut chain = Case::new(rt.alloc(), ENOUGH)?;
     tell_opened(
         rt,
         "open at 4294965247",
-        network.open(&[3, 3, 3], 4_294_965_247),
+        chain.network.open(&[3, 3, 3], 4_294_965_247),
     )?;
-    tell_change(rt, "add 0", network.add(0, waiting, returning))?;
-    tell_change(rt, "add 1", network.add(1, waiting, returning))?;
-    tell_change(rt, "add 0", network.add(0, waiting, returning))?;
-    tell_change(rt, "retract 0", network.retract(0, waiting, returning))?;
-    tell_change(rt, "retract 1", network.retract(1, waiting, returning))?;
+    tell_change(rt, "add 0", chain.add(0))?;
+    tell_change(rt, "add 1", chain.add(1))?;
+    tell_change(rt, "add 0", chain.add(0))?;
+    tell_change(rt, "retract 0", chain.retract(0))?;
+    tell_change(rt, "retract 1", chain.retract(1))?;
     tell_opened(
         rt,
         "open at 4294965248",
-        network.open(&[3, 3, 3], 4_294_965_248),
+        chain.network.open(&[3, 3, 3], 4_294_965_248),
     )?;
-    tell_change(rt, "add 0", network.add(0, waiting, returning))?;
-    tell_change(rt, "add 2", network.add(2, waiting, returning))?;
+    tell_change(rt, "add 0", chain.add(0))?;
+    tell_change(rt, "add 2", chain.add(2))?;
     Ok(())
 }
 
@@ -126,56 +138,37 @@ fn tell_kept(
 // Retracting constraint 0 of the chain leaves what rests on constraint 1 alone.
 fn kept(rt: &HostRuntime) -> anyhow::Result<()> {
     println!(rt; "kept justifications")?;
-    let mut network = Network::new(Sample::Chain);
-    let mut rooms = Rooms::lend(rt.alloc(), 128, 2048)?;
-    let Rooms { waiting, returning } = &mut rooms;
-    tell_opened(rt, "sizes 3 3 3", network.open(&[3, 3, 3], 0))?;
-    tell_change(rt, "add 0", network.add(0, waiting, returning))?;
-    tell_change(rt, "add 1", network.add(1, waiting, returning))?;
-    let first = network.justification(1, 2);
-    let second = network.justification(2, 0);
-    tell_change(rt, "retract 0", network.retract(0, waiting, returning))?;
+    let mut chain = Case::new(rt.alloc(), ENOUGH)?;
+    tell_opened(rt, "sizes 3 3 3", chain.network.open(&[3, 3, 3], 0))?;
+    tell_change(rt, "add 0", chain.add(0))?;
+    tell_change(rt, "add 1", chain.add(1))?;
+    let first = chain.network.justification(1, 2);
+    let second = chain.network.justification(2, 0);
+    tell_change(rt, "retract 0", chain.retract(0))?;
     tell_kept(
         rt,
         "value 2 of variable 1",
         first,
-        network.justification(1, 2),
+        chain.network.justification(1, 2),
     )?;
     tell_kept(
         rt,
         "value 0 of variable 2",
         second,
-        network.justification(2, 0),
+        chain.network.justification(2, 0),
     )
 }
 
-fn with_rooms(
-    rt: &HostRuntime,
-    name: &str,
-    waiting: usize,
-    returning: usize,
-) -> anyhow::Result<()> {
-    println!(rt; "{name}")?;
-    let mut network = Network::new(Sample::Chain);
-    let mut lent = Rooms::lend(rt.alloc(), waiting, returning)?;
-    tell_opened(rt, "sizes 3 3 3", network.open(&[3, 3, 3], 0))?;
-    tell_change(
-        rt,
-        "add 0",
-        network.add(0, &mut lent.waiting, &mut lent.returning),
-    )?;
-    tell_change(
-        rt,
-        "add 1",
-        network.add(1, &mut lent.waiting, &mut lent.returning),
-    )?;
-    tell_change(
-        rt,
-        "retract 0",
-        network.retract(0, &mut lent.waiting, &mut lent.returning),
-    )?;
-    let whole = lent.as_lent_from(0, 0);
-    let past = lent.as_lent_from(128, 2048);
+fn with_rooms(rt: &HostRuntime, lengths: Lengths) -> anyhow::Result<()> {
+    let Lengths { waiting, returning } = lengths;
+    println!(rt; "rooms of {waiting} and {returning}")?;
+    let mut chain = Case::new(rt.alloc(), lengths)?;
+    tell_opened(rt, "sizes 3 3 3", chain.network.open(&[3, 3, 3], 0))?;
+    tell_change(rt, "add 0", chain.add(0))?;
+    tell_change(rt, "add 1", chain.add(1))?;
+    tell_change(rt, "retract 0", chain.retract(0))?;
+    let whole = chain.rooms.as_lent_past(NOTHING);
+    let past = chain.rooms.as_lent_past(ENOUGH);
     println!(rt; "  as lent: {whole}, past 128 and 2048 as lent: {past}")?;
     Ok(())
 }
@@ -185,8 +178,20 @@ fn main(rt: HostRuntime) -> anyhow::Result<()> {
     openings(&rt)?;
     last_times(&rt)?;
     kept(&rt)?;
-    with_rooms(&rt, "rooms of 127 and 2048", 127, 2048)?;
-    with_rooms(&rt, "rooms of 128 and 2047", 128, 2047)?;
-    with_rooms(&rt, "rooms of 128 and 2048", 128, 2048)?;
-    with_rooms(&rt, "rooms of 130 and 2050", 130, 2050)
+    let short_of_waiting = Lengths {
+        waiting: 127,
+        ..ENOUGH
+    };
+    let short_of_returning = Lengths {
+        returning: 2047,
+        ..ENOUGH
+    };
+    let longer = Lengths {
+        waiting: 130,
+        returning: 2050,
+    };
+    for lengths in [short_of_waiting, short_of_returning, ENOUGH, longer] {
+        with_rooms(&rt, lengths)?;
+    }
+    Ok(())
 }

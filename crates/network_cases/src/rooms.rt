@@ -2,6 +2,24 @@
 use domains::Returning;
 use std::alloc::{AllocError, Global};
 
+// How many entries either room has.
+#[derive(Clone, Copy)]
+pub struct Lengths {
+    pub waiting: usize,
+    pub returning: usize,
+}
+
+pub const NOTHING: Lengths = Lengths {
+    waiting: 0,
+    returning: 0,
+};
+
+// As many as any change needs.
+pub const ENOUGH: Lengths = Lengths {
+    waiting: 128,
+    returning: 2048,
+};
+
 // room for constraints that wait, and for values that come back
 #[derive(Drop)]
 pub struct Rooms {
@@ -18,16 +36,23 @@ const ENTRY: Returning = Returning {
 };
 
 impl Rooms {
-    pub fn lend(heap: Global, waiting: usize, returning: usize) -> Result<Rooms, AllocError> {
+    pub fn lend(heap: Global, lengths: Lengths) -> Result<Rooms, AllocError> {
         Ok(Rooms {
-            waiting: vec![in heap; MARK; waiting]?,
-            returning: vec![in heap; ENTRY; returning]?,
+            waiting: vec![in heap; MARK; lengths.waiting]?,
+            returning: vec![in heap; ENTRY; lengths.returning]?,
         })
     }
 
-    // Do the entries from these on stand as they were lent?
-    pub fn as_lent_from(&self, waiting: usize, returning: usize) -> bool {
-        self.waiting.iter().skip(waiting).all(|w| *w == MARK)
-            && self.returning.iter().skip(returning).all(|r| *r == ENTRY)
+    // Do the entries past these stand as they were lent?
+    pub fn as_lent_past(&self, lengths: Lengths) -> bool {
+        self.waiting
+            .iter()
+            .skip(lengths.waiting)
+            .all(|w| *w == MARK)
+            && self
+                .returning
+                .iter()
+                .skip(lengths.returning)
+                .all(|r| *r == ENTRY)
     }
 }

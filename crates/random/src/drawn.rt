@@ -17,7 +17,8 @@ pub struct Constraint<R> {
     pub relation: R,
 }
 
-// The first `count` of 24 constraints, all of them where it is more. A count beside an array, since a catalog is copied, and may count more than it has.
+// The first `count` of 24 constraints, all of them where it is more. A count beside an array and no `ArrayVec`: this public type is `Copy` and must stay
+// so, and `ArrayVec` is not; nor could its length be a count past 24, as `count` may be.
 pub struct Drawn<R> {
     pub count: usize,
     pub constraints: [Constraint<R>; 24],

@@ -1,7 +1,8 @@
 // The two ends of a constraint.
 ghost use Rattle.std.specs.Prelude.{◌<◌, ◌≡◌};
 
-// Two different variables below 32.
+// Two different variables below 32. Not `domains::Ends`: that one is the engine's, and holds any two bytes, while what is promised here makes a drawn
+// catalog lawful. Nor two fields of `Constraint`: all ends are drawn before any relation, and an array of pairs would lose the promise on the way.
 #[derive(Clone, Copy)]
 pub struct Ends {
     pub left: usize,

@@ -39,7 +39,7 @@ impl Random {
         x.wrapping_mul(0x2545_f491_4f6c_dd1d)
     }
 
-    // A number below `n`, or 0 where there is none.
+    // A number below `n`, or 0 where there is none. Not an `Option`: it is promised to give a number for any `n`, as `between` is.
     pub fn below(&mut self, n: usize) -> usize
         ensures below { 0 < n → result < n }
         ensures least { result ≤ n }

@@ -1,4 +1,4 @@
-// Catalogs and numberings drawn from a generator.
+// Catalogs and numberings drawn from a generator. The generator and the span stay two parameters, since the three public functions take them so.
 ghost use Rattle.std.specs.Prelude.{length, ◌≡◌, ◌≤◌};
 ghost use Rattle.random.specs.Constraints.{LieBelow};
 
@@ -92,7 +92,7 @@ pub fn sums(random: &mut Random, count: usize, span: usize, size: usize) -> Sums
     Sums { count, constraints }
 }
 
-// The numbers below `span` shuffled; the others keep their places.
+// The numbers below `span` shuffled; the others keep their places. The turn's number `e` is one of the two places, and the bound of the other.
 pub fn numbering(random: &mut Random, span: usize) -> Numbering {
     let mut list: [usize; 32] = array::from_fn(|e| e);
     for e in 1..span.min(32) {

@@ -5,10 +5,6 @@ use Rattle.network_law.specs.Calls.{Rooms, Call, asks_domain}
 use Rattle.sheet_moves.specs.declared.kinds.Move.{Move}
 use Rattle.runner.specs.Runs.{move_call, domains_asked}
 
--- before any move
-pub no_moves : (xs : List Call) → xs ≡ xs ++ []
-no_moves xs = sym (append-nil xs)
-
 -- one move more
 pub move_more : (rooms : Rooms) (front before after : List Call) (moves : List Move) (i : ℕ) (d : Move) (call : Call) → i < length moves
     → before ≡ front ++ map (move_call rooms) (take i moves) → after ≡ before ++ (call ∷ []) → call ≡ move_call rooms (get_or moves i d)

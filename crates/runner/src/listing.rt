@@ -1,13 +1,14 @@
 // The calls of a run, listed.
-ghost use Rattle.std.specs.Prelude.{◌≡◌, [], ◌∷◌, ◌++◌, map, length, IfOk, OnOk};
+ghost use Rattle.std.specs.Prelude.{◌≡◌, [], ◌∷◌, map, IfOk, OnOk};
 ghost use Rattle.network_law.specs.Calls.{Rooms};
 ghost use Rattle.network.specs.Requests.{call_of, calls_of};
-ghost use Rattle.runner.specs.Runs.{move_call, domains_asked, calls_for};
+ghost use Rattle.runner.specs.Runs.{Adds, move_call, domains_asked, calls_for};
 
 use network::Call;
 use sheet_moves::Move;
 use std::alloc::{AllocError, Global};
 
+// No `From`: both types are other crates', of which neither sees the other.
 fn call_of<'a>(m: Move) -> Call<'a>
     ensures { (rooms : Rooms) → call_of rooms result ≡ move_call rooms m }
 {
@@ -19,7 +20,7 @@ fn call_of<'a>(m: Move) -> Call<'a>
 
 // adds a call
 fn add_call<'a>(calls: &mut Vec<Call<'a>>, call: Call<'a>) -> Result<(), AllocError>
-    ensures { OnOk result ((rooms : Rooms) → calls_of rooms calls.new.items ≡ calls_of rooms calls.old.items ++ (call_of rooms call.entry ∷ [])) }
+    ensures { OnOk result (Adds calls.old.items calls.new.items (λ rooms. call_of rooms call.entry ∷ [])) }
 {
     calls.push(call)?;
     Ok(())
@@ -27,7 +28,7 @@ fn add_call<'a>(calls: &mut Vec<Call<'a>>, call: Call<'a>) -> Result<(), AllocEr
 
 // adds the moves, as calls
 fn add_moves(calls: &mut Vec<Call<'_>>, moves: &[Move]) -> Result<(), AllocError>
-    ensures { OnOk result ((rooms : Rooms) → calls_of rooms calls.new.items ≡ calls_of rooms calls.old.items ++ map (move_call rooms) moves.now) }
+    ensures { OnOk result (Adds calls.old.items calls.new.items (λ rooms. map (move_call rooms) moves.now)) }
 {
     for m in moves {
         add_call(calls, call_of(*m))?;
@@ -35,9 +36,9 @@ fn add_moves(calls: &mut Vec<Call<'_>>, moves: &[Move]) -> Result<(), AllocError
     Ok(())
 }
 
-// adds a question for the domain of each variable below n
+// adds a question for the domain of each variable below n, which is asked by its number
 fn add_questions(calls: &mut Vec<Call<'_>>, n: usize) -> Result<(), AllocError>
-    ensures { OnOk result ((rooms : Rooms) → calls_of rooms calls.new.items ≡ calls_of rooms calls.old.items ++ domains_asked n) }
+    ensures { OnOk result (Adds calls.old.items calls.new.items (λ _. domains_asked n)) }
 {
     for i in 0..n {
         add_call(calls, Call::Domain(i))?;
@@ -46,6 +47,8 @@ fn add_questions(calls: &mut Vec<Call<'_>>, n: usize) -> Result<(), AllocError>
 }
 
 // Open at time 0, make the moves, ask for each domain.
+// No chain of `once`, the moves' `map` and `(0..n).map(Call::Domain)`: it was tried, and a `map` by a function whose result names a lifetime that its
+// arguments do not is not covered by the toolchain.
 pub fn calls_for<'a>(
     heap: Global,
     sizes: &'a [usize],

@@ -1,8 +1,9 @@
 // Which variables and constraints a list of calls has brought about, kept by the trials themselves, which share with the solvers that they judge only
-// the catalogs and the sets of bits.
+// the catalogs, the sets of bits and the names of the causes of refusal.
 use catalog::Catalog;
 use refusal::Refusal;
 use std::alloc::{AllocError, Global};
+use std::ops::Range;
 
 // A value of a variable.
 #[derive(Clone, Copy)]
@@ -11,13 +12,16 @@ pub struct Value {
     pub value: usize,
 }
 
-// A call: the constraint that is to be added, or retracted.
+// A call: the constraint that is to be added, or retracted. Not `sheet_moves::Move`, whose index is two bytes of a sheet: a trial has no sheet, and a
+// constraint is any `usize`, as the solvers take it. Nor `network::Call`, which is a question or an opening too.
 #[derive(Clone, Copy)]
 pub enum Call {
     Add(usize),
     Retract(usize),
 }
 
+// `present`, with `is_in` and `set_in`, is like `Marks` of the solver `acdc2`, and shares no type with it: the book judges that solver, and a slip in
+// a shared type would be the same on both sides.
 #[derive(Drop)]
 pub struct Book {
     pub sizes: Vec<usize>,
@@ -41,6 +45,11 @@ impl Book {
             values,
             present,
         })
+    }
+
+    // The variables, by their numbers.
+    pub fn variables(&self) -> Range<usize> {
+        0..self.sizes.len()
     }
 
     // The number of values of the variable `i`.

@@ -13,11 +13,6 @@ pub fn domains<C: Catalog>(heap: Global, catalog: &C, book: &Book) -> Result<Vec
     Ok(domains)
 }
 
-// The lowest variable with an empty domain. By the trials' own code, since the network's answer is compared with it.
-pub fn wiped_out(domains: &[u64]) -> Option<usize> {
-    domains.iter().position(|domain| *domain == 0)
-}
-
 // How many values are in the domains before and not after, or the other way round.
 pub fn differing(before: &[u64], after: &[u64]) -> u32 {
     before

@@ -18,16 +18,10 @@ pub struct First<'a, C> {
     returning: Vec<Returning>,
 }
 
-const NO_VALUE: Returning = Returning {
-    variable: 0,
-    value: 0,
-    time: 0,
-};
-
 impl<'a, C: Catalog> First<'a, C> {
     pub fn new(heap: Global, catalog: &'a C) -> Result<First<'a, C>, AllocError> {
         let waiting = vec![in heap; 0; 128]?;
-        let returning = vec![in heap; NO_VALUE; 2048]?;
+        let returning = vec![in heap; Returning::default(); 2048]?;
         Ok(First {
             network: Network::new(Lent { catalog }),
             waiting,
@@ -72,11 +66,11 @@ impl<'a, C: Catalog> First<'a, C> {
         Ok(())
     }
 
-    // Asks everything that can be asked.
+    // Asks everything that can be asked. A variable is its number, by which the network is asked.
     pub fn tell(&self, heap: Global, book: &Book) -> Result<Told, Trouble> {
         let mut told = Told::new(heap);
-        for i in 0..book.sizes.len() {
-            told.add_domain(self.network.domain(i)?)?;
+        for variable in book.variables() {
+            told.add_domain(self.network.domain(variable)?)?;
         }
         for value in &book.values {
             self.ask_value(&mut told, *value)?;

@@ -19,55 +19,60 @@ use house::HouseCatalog;
 use random::density::Density;
 use random::{Random, made};
 use samples::ladder::Ladder;
-use std::alloc::Global;
 use std::io;
-use trial::{Shape, list};
+use trial::{Draws, Shape, list};
 use trouble::Trouble;
 
-fn tables(heap: Global, random: &mut Random, shape: Shape) -> Result<(), Trouble> {
-    let shape = shape.narrowed(random);
-    let count = random.between(1, 12);
-    let density = Density::from(random.below(3));
-    let catalog = made::tables(random, count, shape.variables, density);
-    list(heap, &catalog, random, shape)
+fn tables(draws: Draws<'_>) -> Result<(), Trouble> {
+    let shape = draws.shape.narrowed(draws.random);
+    let count = draws.random.between(1, 12);
+    let density = Density::from(draws.random.below(3));
+    let catalog = made::tables(draws.random, count, shape.variables, density);
+    list(Draws { shape, ..draws }, &catalog)
 }
 
-fn sums(heap: Global, random: &mut Random, shape: Shape) -> Result<(), Trouble> {
-    let shape = shape.narrowed(random);
-    let count = random.between(1, 12);
-    let catalog = made::sums(random, count, shape.variables, shape.values);
-    list(heap, &catalog, random, shape)
+fn sums(draws: Draws<'_>) -> Result<(), Trouble> {
+    let shape = draws.shape.narrowed(draws.random);
+    let count = draws.random.between(1, 12);
+    let catalog = made::sums(draws.random, count, shape.variables, shape.values);
+    list(Draws { shape, ..draws }, &catalog)
 }
 
-fn renumbered(heap: Global, random: &mut Random, shape: Shape) -> Result<(), Trouble> {
-    let catalog = made::tables(random, 10, shape.variables, Density::Half);
-    let numbering = made::numbering(random, shape.variables);
-    list(heap, &Renumbered { catalog, numbering }, random, shape)
+fn renumbered(draws: Draws<'_>) -> Result<(), Trouble> {
+    let Shape { variables, .. } = draws.shape;
+    let catalog = made::tables(draws.random, 10, variables, Density::Half);
+    let numbering = made::numbering(draws.random, variables);
+    list(draws, &Renumbered { catalog, numbering })
 }
 
 // Renumbered sums, then tables, then the house constraints.
-fn joined(heap: Global, random: &mut Random, shape: Shape) -> Result<(), Trouble> {
-    let catalog = made::sums(random, 4, shape.variables, shape.values);
-    let numbering = made::numbering(random, shape.variables);
+fn joined(draws: Draws<'_>) -> Result<(), Trouble> {
+    let Shape {
+        variables,
+        values,
+        ..
+    } = draws.shape;
+    let catalog = made::sums(draws.random, 4, variables, values);
+    let numbering = made::numbering(draws.random, variables);
     let second = Joined {
-        first: made::tables(random, 4, shape.variables, Density::Half),
+        first: made::tables(draws.random, 4, variables, Density::Half),
         second: HouseCatalog,
     };
     let first = Renumbered { catalog, numbering };
-    list(heap, &Joined { first, second }, random, shape)
+    list(draws, &Joined { first, second })
 }
 
 // A ladder that with the house constraints passes 128.
-fn ladder(heap: Global, random: &mut Random, shape: Shape) -> Result<(), Trouble> {
+fn ladder(draws: Draws<'_>) -> Result<(), Trouble> {
     let pile = Joined {
         first: Ladder { rungs: 126 },
         second: HouseCatalog,
     };
-    list(heap, &pile, random, shape)
+    list(draws, &pile)
 }
 
-fn house(heap: Global, random: &mut Random, shape: Shape) -> Result<(), Trouble> {
-    list(heap, &HouseCatalog, random, shape)
+fn house(draws: Draws<'_>) -> Result<(), Trouble> {
+    list(draws, &HouseCatalog)
 }
 
 // Lists of calls, from one seed.
@@ -107,7 +112,7 @@ struct Total {
 
 impl Total {
     // Performs the trials, each list on a catalog of that make, prints what came of them, and adds them to what there were so far.
-    fn perform<F: Fn(Global, &mut Random, Shape) -> Result<(), Trouble>>(
+    fn perform<F: Fn(Draws<'_>) -> Result<(), Trouble>>(
         &mut self,
         rt: &HostRuntime,
         trials: Trials,
@@ -126,7 +131,12 @@ impl Total {
         self.calls = self.calls.wrapping_add(lists.wrapping_mul(calls));
         let mut random = Random::new(seed);
         for number in 0..lists {
-            if let Err(trouble) = make(rt.alloc(), &mut random, shape) {
+            let draws = Draws {
+                heap: rt.alloc(),
+                random: &mut random,
+                shape,
+            };
+            if let Err(trouble) = make(draws) {
                 self.agreed = false;
                 return println!(rt; "{name}: list {number}: {trouble:?}");
             }

@@ -1,32 +1,18 @@
 // What the second solver tells.
-use crate::book::{Book, Value};
+use crate::book::{Book, Call, Value};
 use crate::judge::Judge;
 use crate::told::{Account, Told};
 use acdc2::Solver;
+use acdc2::fault::Fault;
 use acdc2::state::Justification;
 use catalog::Catalog;
 use std::alloc::{AllocError, Global};
 
-// The domains and times, with no constraint in any account.
-fn times<C: Catalog>(
-    heap: Global,
-    book: &Book,
-    solver: &Solver<'_, C>,
-) -> Result<Told, AllocError> {
-    let mut told = Told::new(heap);
-    for i in 0..book.sizes.len() {
-        told.add_domain(solver.domain(i))?;
-    }
-    for value in &book.values {
-        if let Some(Justification { time, .. }) = solver.justification(
-            value.variable,
-            value.value,
-        ) {
-            let constraint = None;
-            told.set_account(*value, Account { constraint, time });
-        }
-    }
-    Ok(told)
+// The second solver, and the catalog by which its justifications are completed.
+#[derive(Drop)]
+pub struct Second<'a, C> {
+    catalog: &'a C,
+    solver: Solver<'a, C>,
 }
 
 // The first constraint to the neighbour that accounts for the value being out, if any does.
@@ -41,25 +27,55 @@ fn accountable<C: Catalog>(
     })
 }
 
-// The solver names only the neighbour of a value that is out: the account is the first constraint to that neighbour that holds, if any does.
-pub fn told_by<C: Catalog>(
-    heap: Global,
-    catalog: &C,
-    book: &Book,
-    solver: &Solver<'_, C>,
-) -> Result<Told, AllocError> {
-    let mut told = times(heap, book, solver)?;
-    for value in &book.values {
-        if let Some(why) = solver.justification(value.variable, value.value) {
-            let judge = Judge {
-                catalog,
-                book,
-                told: &told,
-            };
-            let constraint = accountable(&judge, *value, why);
-            let time = why.time;
-            told.set_account(*value, Account { constraint, time });
+impl<'a, C: Catalog> Second<'a, C> {
+    pub fn open(
+        heap: Global,
+        catalog: &'a C,
+        sizes: &[usize],
+    ) -> Result<Second<'a, C>, AllocError> {
+        let solver = Solver::open(heap, catalog, sizes)?;
+        Ok(Second { catalog, solver })
+    }
+
+    // Makes a call.
+    pub fn make(&mut self, heap: Global, call: Call) -> Result<(), Fault> {
+        match call {
+            Call::Add(p) => self.solver.add(p).map_err(Fault::Refused),
+            Call::Retract(p) => self.solver.retract(heap, p),
         }
     }
-    Ok(told)
+
+    // The domains and times, with no constraint in any account. A variable is its number, by which the solver is asked.
+    fn times(&self, heap: Global, book: &Book) -> Result<Told, AllocError> {
+        let mut told = Told::new(heap);
+        for variable in book.variables() {
+            told.add_domain(self.solver.domain(variable))?;
+        }
+        for value in &book.values {
+            if let Some(why) = self.solver.justification(value.variable, value.value) {
+                let constraint = None;
+                let time = why.time;
+                told.set_account(*value, Account { constraint, time });
+            }
+        }
+        Ok(told)
+    }
+
+    // The solver names only the neighbour of a value that is out: the account is the first constraint to that neighbour that holds, if any does.
+    pub fn tell(&self, heap: Global, book: &Book) -> Result<Told, AllocError> {
+        let mut told = self.times(heap, book)?;
+        for value in &book.values {
+            if let Some(why) = self.solver.justification(value.variable, value.value) {
+                let judge = Judge {
+                    catalog: self.catalog,
+                    book,
+                    told: &told,
+                };
+                let constraint = accountable(&judge, *value, why);
+                let time = why.time;
+                told.set_account(*value, Account { constraint, time });
+            }
+        }
+        Ok(told)
+    }
 }

@@ -1,16 +1,18 @@
 // One list of calls: after each of them every party is to tell the same.
 use crate::book::{Book, Call};
+use crate::expected;
 use crate::first::First;
 use crate::judge::Judge;
+use crate::second::Second;
 use crate::told::Told;
 use crate::trouble::Trouble;
-use crate::{expected, second};
-use acdc2::Solver;
+use acdc2::fault::Fault;
 use catalog::Catalog;
 use network_law::Change;
 use random::Random;
 use refusal::Refusal;
 use std::alloc::{AllocError, Global};
+use wiped::wiped_out;
 
 // How large the networks of a list may be, and how many calls follow each opening.
 #[derive(Clone, Copy)]
@@ -33,85 +35,40 @@ impl Shape {
             ..self
         }
     }
+}
 
+// What a list of calls is drawn from, and the memory for its trial.
+#[derive(Drop)]
+pub struct Draws<'a> {
+    pub heap: Global,
+    pub random: &'a mut Random,
+    pub shape: Shape,
+}
+
+impl Draws<'_> {
     // Sizes for as many variables, or now and then for one fewer.
-    fn draw_sizes(self, heap: Global, random: &mut Random) -> Result<Vec<usize>, AllocError> {
-        let fewer = random.below(12) / 10;
-        let n = self.variables.clamp(2, 32) - fewer;
-        (0..n).map(|_| random.between(1, self.values)).collect(heap)
+    fn sizes(&mut self) -> Result<Vec<usize>, AllocError> {
+        let Shape {
+            variables,
+            values,
+            ..
+        } = self.shape;
+        let fewer = self.random.below(12) / 10;
+        let n = variables.clamp(2, 32) - fewer;
+        (0..n)
+            .map(|_| self.random.between(1, values))
+            .collect(self.heap)
     }
 }
 
-// A constraint to add or retract: mostly one that there is.
-fn draw_constraint<C: Catalog>(catalog: &C, random: &mut Random) -> usize {
-    let past = random.below(12) / 10;
-    random.below(catalog.count() + 2 * past)
-}
-
-// A call: mostly what is out is added and what is in retracted.
-fn draw_call<C: Catalog>(catalog: &C, random: &mut Random, book: &Book) -> Call {
-    let p = draw_constraint(catalog, random);
-    let usual = random.below(8) != 0;
-    if book.is_in(p) != usual {
-        Call::Add(p)
-    } else {
-        Call::Retract(p)
-    }
-}
-
-// The book that the trials keep, what stood after the last call by the computation from scratch and by the network, and the second solver.
+// After an opening: the book that the trials keep, what stood after the last call by the computation from scratch and by the network, and the
+// second solver.
 #[derive(Drop)]
 struct Parties<'a, C> {
     book: Book,
     domains: Vec<u64>,
     told: Told,
-    solver: Solver<'a, C>,
-}
-
-// Has the second solver these domains, with every value that is out justified?
-fn check_second<C: Catalog>(
-    heap: Global,
-    catalog: &C,
-    book: &Book,
-    solver: &Solver<'_, C>,
-    domains: &[u64],
-) -> Result<(), Trouble> {
-    let told = &second::told_by(heap, catalog, book, solver)?;
-    if !told.has_domains(domains) {
-        return Err(Trouble::SecondDomains);
-    }
-    if !(Judge {
-        catalog,
-        book,
-        told,
-    })
-    .justified()
-    {
-        return Err(Trouble::SecondJustification);
-    }
-    Ok(())
-}
-
-// Does the network tell these domains, with every value that is out justified?
-fn check_first<C: Catalog>(
-    heap: Global,
-    judge: &Judge<'_, C>,
-    domains: &[u64],
-    wiped: Option<usize>,
-) -> Result<(), Trouble> {
-    if !judge.told.has_domains(domains) {
-        return Err(Trouble::Domains);
-    }
-    if wiped != expected::wiped_out(domains) {
-        return Err(Trouble::WipedOut);
-    }
-    if !judge.justified() {
-        return Err(Trouble::Justification);
-    }
-    if !judge.times_differ(heap)? {
-        return Err(Trouble::Times);
-    }
-    Ok(())
+    second: Second<'a, C>,
 }
 
 // Is the network's answer the one that is due: refused by the cause that the book gives, or with the number of values that went or came back, and the
@@ -131,6 +88,15 @@ fn check_answer(
     }
 }
 
+// Did the second solver do what is due: accept the call, or refuse it by the cause that the book gives?
+fn check_done(done: Result<(), Fault>, due: Result<(), Refusal>) -> Result<(), Trouble> {
+    match done {
+        Err(Fault::Memory) => Err(Trouble::Memory),
+        _ if done == due.map_err(Fault::Refused) => Ok(()),
+        _ => Err(Trouble::SecondCause),
+    }
+}
+
 // The justifications that do not rest on what is retracted are to be kept: all of them where nothing is.
 fn check_kept<C: Catalog>(
     heap: Global,
@@ -146,106 +112,127 @@ fn check_kept<C: Catalog>(
     }
 }
 
-// Makes the call of the second solver.
-fn call_second<C: Catalog>(
-    heap: Global,
-    solver: &mut Solver<'_, C>,
-    call: Call,
-    accepted: bool,
-) -> Result<(), Trouble> {
-    let done = match call {
-        Call::Add(p) => solver.add(p),
-        Call::Retract(p) => solver.retract(heap, p)?,
-    };
-    if done == accepted {
-        Ok(())
-    } else {
-        Err(Trouble::SecondAcceptance)
-    }
-}
-
-// A network on a catalog, and the memory for the trial.
+// A network on a catalog, and what the trial is drawn from.
 #[derive(Drop)]
 struct Trial<'a, C> {
-    heap: Global,
+    draws: Draws<'a>,
     catalog: &'a C,
     first: First<'a, C>,
 }
 
 impl<'a, C: Catalog> Trial<'a, C> {
-    // Opens the network, and the second solver with it.
-    fn open(&mut self, sizes: Vec<usize>, time: u32) -> Result<Parties<'a, C>, Trouble> {
-        let heap = self.heap;
-        let catalog = self.catalog;
-        self.first.open(&sizes, time)?;
-        let solver = Solver::open(heap, catalog, &sizes)?;
-        let book = Book::open(heap, sizes)?;
-        let domains = expected::domains(heap, catalog, &book)?;
-        let told = self.first.tell(heap, &book)?;
-        self.check(&book, &told, &solver, &domains)?;
-        Ok(Parties {
-            book,
-            domains,
-            told,
-            solver,
-        })
+    // A constraint to add or retract: mostly one that there is.
+    fn draw_constraint(&mut self) -> usize {
+        let past = self.draws.random.below(12) / 10;
+        self.draws.random.below(self.catalog.count() + 2 * past)
     }
 
-    // Do both solvers tell these domains, with every value that is out justified?
-    fn check(
-        &self,
-        book: &Book,
-        told: &Told,
-        solver: &Solver<'_, C>,
-        domains: &[u64],
-    ) -> Result<(), Trouble> {
-        let catalog = self.catalog;
-        let judge = Judge {
-            catalog,
+    // A call: mostly what is out is added and what is in retracted.
+    fn draw_call(&mut self, book: &Book) -> Call {
+        let p = self.draw_constraint();
+        let usual = self.draws.random.below(8) != 0;
+        if book.is_in(p) != usual {
+            Call::Add(p)
+        } else {
+            Call::Retract(p)
+        }
+    }
+
+    // What was told, to be judged by the book.
+    fn judge<'b>(&self, book: &'b Book, told: &'b Told) -> Judge<'b, C>
+    where
+        'a: 'b,
+    {
+        Judge {
+            catalog: self.catalog,
             book,
             told,
+        }
+    }
+
+    // Does the network tell the domains from scratch, with every value that is out justified?
+    fn check_first(&self, parties: &Parties<'a, C>) -> Result<(), Trouble> {
+        if !parties.told.has_domains(&parties.domains) {
+            return Err(Trouble::Domains);
+        }
+        if self.first.wiped_out() != wiped_out(&parties.domains) {
+            return Err(Trouble::WipedOut);
+        }
+        let judge = self.judge(&parties.book, &parties.told);
+        if !judge.justified() {
+            return Err(Trouble::Justification);
+        }
+        if !judge.times_differ(self.draws.heap)? {
+            return Err(Trouble::Times);
+        }
+        Ok(())
+    }
+
+    // Does the second solver tell the domains from scratch, with every value that is out justified?
+    fn check_second(&self, parties: &Parties<'a, C>) -> Result<(), Trouble> {
+        let told = parties.second.tell(self.draws.heap, &parties.book)?;
+        if !told.has_domains(&parties.domains) {
+            return Err(Trouble::SecondDomains);
+        }
+        if !self.judge(&parties.book, &told).justified() {
+            return Err(Trouble::SecondJustification);
+        }
+        Ok(())
+    }
+
+    // Do both solvers tell the domains from scratch, with every value that is out justified?
+    fn check(&self, parties: &Parties<'a, C>) -> Result<(), Trouble> {
+        self.check_first(parties)?;
+        self.check_second(parties)
+    }
+
+    // Opens the network, and the second solver with it.
+    fn open(&mut self) -> Result<Parties<'a, C>, Trouble> {
+        let heap = self.draws.heap;
+        let sizes = self.draws.sizes()?;
+        let time = self.draws.random.below(4_000_000_000) as u32;
+        self.first.open(&sizes, time)?;
+        let second = Second::open(heap, self.catalog, &sizes)?;
+        let book = Book::open(heap, sizes)?;
+        let parties = Parties {
+            domains: expected::domains(heap, self.catalog, &book)?,
+            told: self.first.tell(heap, &book)?,
+            book,
+            second,
         };
-        check_first(self.heap, &judge, domains, self.first.wiped_out())?;
-        check_second(self.heap, catalog, book, solver, domains)
+        self.check(&parties)?;
+        Ok(parties)
     }
 
     // Makes one call of every party, and compares.
     fn perform(&mut self, parties: &mut Parties<'a, C>, call: Call) -> Result<(), Trouble> {
-        let heap = self.heap;
-        let catalog = self.catalog;
-        let due = parties.book.may(catalog, call);
+        let heap = self.draws.heap;
+        let due = parties.book.may(self.catalog, call);
         let answer = self.first.make(call);
-        call_second(heap, &mut parties.solver, call, due.is_ok())?;
+        check_done(parties.second.make(heap, call), due)?;
         let told = self.first.tell(heap, &parties.book)?;
         let retracted = match call {
             Call::Retract(p) if due.is_ok() => Some(p),
             _ => None,
         };
-        let before = Judge {
-            catalog,
-            book: &parties.book,
-            told: &parties.told,
-        };
+        let before = self.judge(&parties.book, &parties.told);
         check_kept(heap, &before, &told, retracted)?;
         if due.is_ok() {
             parties.book.note(call);
         }
-        let domains = expected::domains(heap, catalog, &parties.book)?;
+        let domains = expected::domains(heap, self.catalog, &parties.book)?;
         let values = expected::differing(&parties.domains, &domains);
-        check_answer(answer, due, values, expected::wiped_out(&domains))?;
-        self.check(&parties.book, &told, &parties.solver, &domains)?;
+        check_answer(answer, due, values, wiped_out(&domains))?;
         parties.domains = domains;
         parties.told = told;
-        Ok(())
+        self.check(parties)
     }
 
     // Opens the network and makes calls.
-    fn calls(&mut self, random: &mut Random, shape: Shape) -> Result<(), Trouble> {
-        let sizes = shape.draw_sizes(self.heap, random)?;
-        let time = random.below(4_000_000_000) as u32;
-        let mut parties = self.open(sizes, time)?;
-        for _ in 0..shape.calls {
-            let call = draw_call(self.catalog, random, &parties.book);
+    fn calls(&mut self) -> Result<(), Trouble> {
+        let mut parties = self.open()?;
+        for _ in 0..self.draws.shape.calls {
+            let call = self.draw_call(&parties.book);
             self.perform(&mut parties, call)?;
         }
         Ok(())
@@ -253,18 +240,13 @@ impl<'a, C: Catalog> Trial<'a, C> {
 }
 
 // Makes a network, and twice opens it and makes calls.
-pub fn list<C: Catalog>(
-    heap: Global,
-    catalog: &C,
-    random: &mut Random,
-    shape: Shape,
-) -> Result<(), Trouble> {
-    let first = First::new(heap, catalog)?;
+pub fn list<C: Catalog>(draws: Draws<'_>, catalog: &C) -> Result<(), Trouble> {
+    let first = First::new(draws.heap, catalog)?;
     let mut trial = Trial {
-        heap,
+        draws,
         catalog,
         first,
     };
-    trial.calls(random, shape)?;
-    trial.calls(random, shape)
+    trial.calls()?;
+    trial.calls()
 }

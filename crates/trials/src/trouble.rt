@@ -8,15 +8,15 @@ pub enum Trouble {
     Memory,
     // the largest domains from scratch were refused
     Scratch,
-    // the second solver accepted a call that is to be refused, or the other way round
-    SecondAcceptance,
+    // the second solver refused a call by another cause, or accepted it, or refused one that is to be accepted
+    SecondCause,
     // the second solver has other domains than those from scratch
     SecondDomains,
     // the second solver has a value without a right justification
     SecondJustification,
     // the network refused a call that is to be accepted, or a question
     Refusal,
-    // the network refused a call by another cause, or accepted it
+    // the network refused a call by another cause, or accepted it, or refused one that is to be accepted
     Cause,
     // the network has other domains than those from scratch
     Domains,

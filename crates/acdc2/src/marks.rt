@@ -1,0 +1,39 @@
+// Sets of constraints: those that are in, and those that wait for revision.
+
+// One mark for each constraint, and no list of those marked, since adding a constraint is not to fail for want of memory.
+// The trials' `Book` has the same of its own: it judges this solver, and a slip in a shared type would be the same on both sides.
+#[derive(Clone, Copy)]
+pub(crate) struct Marks {
+    marks: [bool; 128],
+}
+
+impl Marks {
+    pub(crate) fn none() -> Marks {
+        Marks {
+            marks: [false; 128],
+        }
+    }
+
+    pub(crate) fn only(p: usize) -> Marks {
+        let mut marks = Marks::none();
+        marks.set(p, true);
+        marks
+    }
+
+    pub(crate) fn has(&self, p: usize) -> bool {
+        self.marks.get(p).copied().unwrap_or(false)
+    }
+
+    pub(crate) fn set(&mut self, p: usize, marked: bool) {
+        if let Some(place) = self.marks.get_mut(p) {
+            *place = marked;
+        }
+    }
+
+    // Takes out the first constraint of the set, if there is one.
+    pub(crate) fn take(&mut self) -> Option<usize> {
+        let p = self.marks.iter().position(|marked| *marked)?;
+        self.marks[p] = false;
+        Some(p)
+    }
+}
