@@ -23,7 +23,8 @@ pub struct Domains {
 }
 
 // The variables' sizes, and the constraints by their index: whether each is in, its two ends, and its rows of supports on the sides of both.
-// `rows[2 * p][x]` has bit y, and `rows[2 * p + 1][y]` has bit x, where p lets x of its left end stand beside y of its right end. Presence, ends and rows
+// `rows[2 * p][x]` has bit y, and `rows[2 * p + 1][y]` has bit x, where p lets x of its left end stand beside y of its right end: an arc has one number for
+// its rows, as those of a computation from scratch have. Presence, ends and rows
 // stand apart: an opening takes every constraint out in one write and leaves the ends, for which a struct of both would need a loop; and the constraints at
 // a variable are found by a walk over all ends, 256 bytes of them, which with the rows between them would reach over 130 kilobytes. Only what is true of any
 // arrays of these types stands in the type: what else is asked of constraints is `Shape`, since anyone may make such a value.
