@@ -1,7 +1,6 @@
 use Rattle.std.proofs.Common.{refl}
 use Rattle.std.specs.Result.{is_ok}
-use Rattle.engine.proofs.Kept.{kept_refl}
-use Rattle.engine.proofs.Marks.{queued_push, mark_again}
+use Rattle.engine.proofs.Marks.{queued_push}
 use Rattle.engine.proofs.propagate.enqueue.Goals as goal
 
 pub returns-then-not-marks-constraint : goal.returns-then-not-marks-constraint
@@ -11,12 +10,4 @@ returns-then-not-marks-constraint c =
           c.if-not-marks-constraint.true c.push.ensures.fits c.push.ensures.waiting c.push.ensures.len c.push.ensures.kept;
       kept = c.push.ensures.kept;
       marks = refl;
-    }
-
-pub returns-else-not-marks-constraint : goal.returns-else-not-marks-constraint
-returns-else-not-marks-constraint c =
-    record {
-      queued = c.requires.queued;
-      kept = kept_refl c.args.q.now;
-      marks = mark_again c.args.marks.now c.args.constraint c.if-not-marks-constraint.false;
     }

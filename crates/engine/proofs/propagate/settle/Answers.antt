@@ -1,6 +1,5 @@
-use Rattle.std.proofs.Common.{◌≡◌, ℕ, Some, refl, arith}
-use Rattle.domains.proofs.Settle.{settled_marked, supported_same, changed_yes, changed_no}
-use Rattle.engine.proofs.Kept.{kept_refl}
+use Rattle.std.proofs.Common.{◌≡◌, ℕ, Some, arith}
+use Rattle.domains.proofs.Settle.{settled_marked, changed_yes}
 use Rattle.engine.proofs.propagate.settle.Goals as goal
 
 some_one : (p r : ℕ) → Some p ≡ Some r → p ≡ r
@@ -16,16 +15,4 @@ returns-then-revise c =
           settled_marked c.args.c.now c.args.d.now c.revise.new.d c.args.arc c.args.marks.now c.enqueue_at.new.marks
           c.requires.shape c.revise.ensures.revised c.enqueue_at.ensures.more (λ r on ne. c.enqueue_at.ensures.waits r on (λ e. ne (some_one r c.args.arc.constraint e))) c.requires.settled;
       idle = λ e. absurd (changed_yes c.revise.new.d.clock c.args.d.now.clock c.if-revise.ensures.changed e);
-    }
-
-pub returns-else-revise : goal.returns-else-revise
-returns-else-revise c =
-    let same : c.revise.new.d.clock ≡ c.args.d.now.clock = changed_no c.revise.new.d.clock c.args.d.now.clock c.if-revise.ensures.changed in
-    record {
-      revised = c.revise.ensures.revised;
-      queued = c.requires.queued;
-      kept = kept_refl c.args.q.now;
-      settled = λ r un ne.
-          supported_same c.args.c.now c.args.d.now c.revise.new.d r (c.revise.ensures.revised.went.idle same) (c.requires.settled r un ne);
-      idle = λ _. refl;
     }

@@ -1,22 +1,9 @@
-use Rattle.std.proofs.Common.{◌≡◌, ℕ, sym, refl, ◌∙◌, subst, arith}
+use Rattle.std.proofs.Common.{◌≡◌, ℕ, sym, ◌∙◌, subst, arith}
 use Rattle.domains.specs.Sound.{Supported}
-use Rattle.domains.proofs.Revise.{went_refl, went_trans}
-use Rattle.domains.proofs.Settle.{settled_all, supported_absent, visited}
-use Rattle.engine.proofs.Kept.{kept_refl, kept_trans}
+use Rattle.domains.proofs.Revise.{went_trans}
+use Rattle.domains.proofs.Settle.{settled_all, visited}
+use Rattle.engine.proofs.Kept.{kept_trans}
 use Rattle.engine.proofs.propagate.visit.Goals as goal
-
-pub returns-in_default : goal.returns-in_default
-returns-in_default c =
-    record {
-      sound = c.requires.sound;
-      went = went_refl c.args.c.now c.args.d.now;
-      queued = c.requires.queued;
-      kept = kept_refl c.args.q.now;
-      settled =
-          settled_all c.args.c.now c.args.d.now c.args.marks.now c.args.constraint
-          (supported_absent c.args.c.now c.args.d.now c.args.constraint c.requires.shape c.in_default.ensures) c.requires.settled;
-      idle = λ _. refl;
-    }
 
 pub returns : goal.returns
 returns c =

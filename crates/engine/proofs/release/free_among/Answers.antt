@@ -1,25 +1,11 @@
 use Rattle.std.proofs.Common.{◌+◌, sym, subst₂, arith}
-use Rattle.std.proofs.lemmas.Bool.{both_ways, lt-ltb, ltb-true}
+use Rattle.std.proofs.lemmas.Bool.{both_ways, lt-ltb}
 use Rattle.queue.specs.declared.fifo.Queue.{Queue}
 use Rattle.domains.specs.declared.Domains.{Domains}
 use Rattle.domains.specs.declared.Returning.{Returning}
 use Rattle.engine.proofs.Frees.{Among, among_skip, among_free, names_yes, names_no}
 use Rattle.engine.proofs.release.free_among.Goals as goal
 use Rattle.engine.proofs.release.free_among.Goals.{then-has+then-names, then-has+else-names, else-has}
-
-pub names-requires : goal.names-requires
-names-requires c = record { variable = c.requires.low; value = omega (arith, c.requires.shape.small c.args.variable) }
-
-pub free-requires : goal.free-requires
-free-requires c =
-    let yes = names_yes _ _ _ c.if-names.ensures in
-    record {
-      variable = c.requires.low;
-      value = omega (arith, c.requires.shape.small c.args.variable);
-      was = yes.0;
-      limit = c.loop-x.invariant.roomy.limit;
-      few = c.loop-x.invariant.roomy.few;
-    }
 
 pub loop-x-preserved : goal.loop-x-preserved
 loop-x-preserved c =
@@ -45,13 +31,3 @@ loop-x-preserved c =
           subst₂ P (sym w.d-is) (sym w.q-is)
           (among_skip n d c.loop-x.d q c.loop-x.q i p s x (λ h _. absurd (both_ways _ (sym w.if-has.ensures) h)) c.loop-x.invariant)
     ]
-
-pub returns : goal.returns
-returns c =
-    record {
-      roomy = c.loop-x.invariant.roomy;
-      grew = c.loop-x.invariant.grew;
-      frees = c.loop-x.invariant.frees;
-      freed = λ k inside has names.
-          c.loop-x.invariant.below k (omega (arith, ltb-true k _ inside, c.loop-x-test.false)) has names;
-    }

@@ -2,9 +2,6 @@ use Rattle.domains.proofs.Lengths.{same_data}
 use Rattle.engine.proofs.Called.{afresh_opened, afresh_stands, stood}
 use Rattle.engine.proofs.state.Engine.open.Goals as goal
 
-pub invariant_of-self-3 : goal.invariant_of-self-3
-invariant_of-self-3 c = record { sets_long = c.full-sets.ensures.long; why_long = c.args.self.now.domains.why_long; each_why_long = c.args.self.now.domains.each_why_long; wide = c.full-sets.ensures.wide }
-
 pub invariant_of-self-4 : goal.invariant_of-self-4
 invariant_of-self-4 c =
     let n = c.args.self.now.constraints in

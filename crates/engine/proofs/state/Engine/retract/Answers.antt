@@ -1,28 +1,6 @@
-use Rattle.std.proofs.Common.{length, refl, arith}
-use Rattle.engine.proofs.Called.{more_shown, retractable, right_now, stood}
+use Rattle.std.proofs.Common.{arith}
+use Rattle.engine.proofs.Called.{more_shown, right_now, stood}
 use Rattle.engine.proofs.state.Engine.retract.Goals as goal
-
-pub returns-then-not-can_retract : goal.returns-then-not-can_retract
-returns-then-not-can_retract c =
-    record {
-      can = c.if-not-can_retract.ensures;
-      retracted = (refl, refl, refl, refl);
-      past = record { long = refl; rest = refl };
-      past_returning = record { long = refl; rest = refl };
-    }
-
-pub take_out-requires : goal.take_out-requires
-take_out-requires c =
-    let a =
-    retractable c.args.self.now.constraints c.args.self.now.domains c.args.constraint (length c.args.waiting.now) (length c.args.returning.now)
-    c.if-not-can_retract.ensures
-    in
-    record {
-      low = a.low;
-      time = a.time;
-      room = a.wide;
-      returns = a.returns;
-    }
 
 pub overflow_sub-result : goal.overflow_sub-result
 overflow_sub-result c = omega (
