@@ -147,14 +147,6 @@ inside_le (suc w) a b h e =
 pub has_le : (a b x : ℕ) → (has_bit a x ≡ true → has_bit b x ≡ true) → bit_at a x ≤ bit_at b x
 has_le a b x h = ⊎_elim (λ z. omega arith) (λ o. let t : bit_at b x ≡ 1 = eqb-true (bit_at b x) 1 (h (eq-eqb (bit_at a x) 1 o)) in omega arith) (bit_cases a x)
 
--- equality of sets as tests
-pub same_sets : (w a b : ℕ) → a < 2 ^ w → b < 2 ^ w → ((x : ℕ) → x < w → has_bit a x ≡ has_bit b x) → a ≡ b
-same_sets w a b h k e =
-    same_bits w a b h k
-    (λ x l. ⊎_elim
-    (λ z. ⊎_elim (λ z'. z ∙ sym z') (λ o. absurd (both_ways (has_bit a x) (ap (λ n. eqb n 1) z) (e x l ∙ eq-eqb (bit_at b x) 1 o))) (bit_cases b x))
-    (λ o. o ∙ sym (eqb-true (bit_at b x) 1 (sym (e x l) ∙ eq-eqb (bit_at a x) 1 o))) (bit_cases a x))
-
 -- past the width no value is in
 pub has_past : (w d x : ℕ) → d < 2 ^ w → w ≤ x → has_bit d x ≡ false
 has_past w d x h k = ap (λ n. eqb n 1) (bit_past w d x h k)

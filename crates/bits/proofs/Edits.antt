@@ -103,12 +103,3 @@ ones_added w d x h l e =
     (λ ne. omega (arith, added_other d x y ne, bit_power_other x y ne)) (cases_eq x y))
     in
     omega (arith, ones_power x)
-
--- two counts of sets, one inside the other, differ where a value does
-pub ones_fewer : (w a b x : ℕ) → a < 2 ^ w → b < 2 ^ w → x < w → ((y : ℕ) → bit_at a y ≤ bit_at b y) → bit_at a x ≡ 0 → bit_at b x ≡ 1 → ones a < ones b
-ones_fewer w a b x ha hb l h p q =
-    let s : ones a ≤ ones (bit_xor b (2 ^ x)) =
-    ones_inside w a (bit_xor b (2 ^ x)) ha (xor_lt w b (2 ^ x) hb (pow-lt l))
-    (λ y. ⊎_elim (λ t. rw (← t) (omega arith)) (λ ne. omega (arith, cleared_other b x y ne, h y)) (cases_eq x y))
-    in
-    omega (arith, ones_cleared w b x hb l q)

@@ -50,9 +50,6 @@ pub total-take : (ds : List ℕ) (i : ℕ) → i < length ds → total (take (i 
 total-take ds i h =
     ap total (take_more ds i 0 h) ∙ total-append (take i ds) (get_or ds i 0 ∷ []) ∙ omega arith
 
-pub total_all : (ds : List ℕ) (n : ℕ) → length ds ≤ n → total (take n ds) ≡ total ds
-total_all ds n h = ap total (take_all n ds h)
-
 -- sets inside others have no more values
 bit_inside : (a b x : ℕ) → (has_bit a x ≡ true → has_bit b x ≡ true) → bit_at a x ≤ bit_at b x
 bit_inside a b x h =
@@ -78,15 +75,3 @@ pub zero_row : (n m k x : ℕ) → get_or {A = ℕ} (get_or (replicate n (replic
 zero_row n m k x =
     ⊎_elim (λ l. ap (λ xs. get_or xs x 0) (get_or-replicate n k (replicate m 0) [] l) ∙ zero_at m x)
     (λ g. ap (λ xs. get_or xs x 0) (get_or_past (replicate n (replicate m 0)) k [] (omega (arith, length-replicate n (replicate {A = ℕ} m 0))))) (cases_lt k n)
-
--- one more entry is written
-pub set_step : (xs : List ℕ) (i v : ℕ) (P : ℕ → ℕ → Type 0) → i < length xs → ((k : ℕ) → k < i → P k (get_or xs k 0)) → P i v → (k : ℕ) → k < i + 1 → P k (get_or (set xs i v) k 0)
-set_step xs i v P l below here k h =
-    ⊎_elim
-    (λ e. subst (λ j. P j (get_or (set xs i v) j 0)) (sym e) (subst (P i) (sym (get_or-set_same xs i v 0 l)) here))
-    (λ ne. subst (P k) (sym (get_or-set_other xs i k v 0 ne)) (below k (omega arith)))
-    (cases_eq k i)
-
-pub set_wide : (xs : List ℕ) (i v n : ℕ) → i < length xs → ((k : ℕ) → get_or xs k 0 < n) → v < n → (k : ℕ) → get_or (set xs i v) k 0 < n
-set_wide xs i v n l wide h k =
-    ⊎_elim (λ e. rw e (omega (arith, get_or-set_same xs i v 0 l))) (λ ne. omega (arith, get_or-set_other xs i k v 0 ne, wide k)) (cases_eq k i)

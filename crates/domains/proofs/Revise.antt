@@ -83,14 +83,6 @@ module _ (c : Constraints) (d : Domains) (a : Arc) (facing : Facing c a) (x : �
 
 -- ---- the turns
 
-pub revising_none : (c : Constraints) (d : Domains) (a : Arc) → Sound c d → Revising c d d a 0
-revising_none c d a sound =
-    record {
-      sound = sound;
-      went = went_refl c d;
-      below = record { supported = λ k h _. absurd (omega arith); kept = λ k h _. h; later = λ k _. refl; others = λ j _. refl };
-    }
-
 -- the value x stays
 pub revising_keep : (c : Constraints) (d d' : Domains) (a : Arc) (x : ℕ) → (shown d' a.near x ≡ true → Support (arcs_of c) (shown d) a.near a.constraint x) → Revising c d d' a x → Revising c d d' a (x + 1)
 revising_keep c d d' a x sup r =

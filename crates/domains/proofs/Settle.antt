@@ -109,16 +109,8 @@ pub settled_all : (c : Constraints) (d : Domains) (marks : List Bool) (p : ℕ) 
 settled_all c d marks p sup settled r un =
     ⊎_elim (λ e. rw e sup) (λ ne. settled r un ne) (cases_eq r p)
 
--- a constraint that is not in at its left end is in nowhere
-pub supported_absent : (c : Constraints) (d : Domains) (p : ℕ) → Shape c → (arcs_of c).on (left_of c p) p ≡ false → Supported c d p
-supported_absent c d p shape off i x on h =
-    absurd (both_ways ((arcs_of c).on (left_of c p) p) off (on_left c p shape (on_low c i p on) (on_present c i p on)))
-
 pub changed_yes : (a b : ℕ) → true ≡ not (eqb a b) → a ≡ b → ⊥
 changed_yes a b e f = both_ways (not (eqb a b)) (ap not (eq-eqb a b f)) (sym e)
-
-pub changed_no : (a b : ℕ) → false ≡ not (eqb a b) → a ≡ b
-changed_no a b e = eqb-true a b (not-false (eqb a b) (sym e))
 
 -- one constraint is unmarked
 pub settled_unmark : (c : Constraints) (d : Domains) (marks : List Bool) (p : ℕ) → Settled c d marks → SettledBut c d (set marks p false) p

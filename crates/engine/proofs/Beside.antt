@@ -29,10 +29,6 @@ pub record Beside (c : Constraints) (d d' : Domains) (q q' : Queue Returning) (v
   pub grew : Grew d d' q q'
   pub frees : (p : ℕ) (d₀ : Domains) → Releasing c p d₀ d (v ∷ waits q) → Releasing c p d₀ d' (v ∷ waits q') × FollowedBelow c d₀ d' v.variable v.value n
 
-pub beside_none : (c : Constraints) (d : Domains) (q : Queue Returning) (v : Returning) → Roomy c d q → Beside c d d q q v 0
-beside_none c d q v r =
-    record { roomy = r; grew = grew_refl d q; frees = λ p d₀ h. (h, λ i x o l _ _. absurd (omega arith)) }
-
 -- the constraint n does not tie the variable
 pub beside_skip : (c : Constraints) (d d' : Domains) (q q' : Queue Returning) (v : Returning) (n : ℕ) → Shape c → (arcs_of c).on v.variable n ≡ false → Beside c d d' q q' v n → Beside c d d' q q' v (n + 1)
 beside_skip c d d' q q' v n shape off b =

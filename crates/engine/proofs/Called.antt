@@ -19,44 +19,6 @@ use Rattle.domains.proofs.Setup.{all_shown, none_at, reopened, sizes_small, stan
 use Rattle.engine.specs.declared.state.Engine.{Engine}
 use Rattle.engine.specs.Calls.{Loadable, can_add, can_load, can_retract, justification_of, Opened, Right}
 
-pub record Addable (c : Constraints) (d : Domains) (p room : ℕ) : Type 0 where
-  pub low : p < 128
-  pub apart : left_of c p ≡ right_of c p → ⊥
-  pub wide : 128 ≤ room
-  pub time : d.clock ≤ LAST_TIME
-
-pub addable : (c : Constraints) (d : Domains) (p room : ℕ) → true ≡ can_add c d p room → Addable c d p room
-addable c d p room e =
-    let a = and_parts (ltb p 128) _ (sym e) in
-    let b = and_parts (not (is_present c p)) _ a.1 in
-    let f = and_parts (not (eqb (left_of c p) (right_of c p))) _ b.1 in
-    let g = and_parts (not (ltb room 128)) _ f.1 in
-    record {
-      low = ltb-true p 128 a.0;
-      apart = eqb-false (left_of c p) (right_of c p) (not-true (eqb (left_of c p) (right_of c p)) f.0);
-      wide = ltb-false room 128 (not-true (ltb room 128) g.0);
-      time = ltb-false LAST_TIME d.clock (not-true (ltb LAST_TIME d.clock) g.1);
-    }
-
-pub record Retractable (c : Constraints) (d : Domains) (p room returning : ℕ) : Type 0 where
-  pub low : p < 128
-  pub wide : 128 ≤ room
-  pub returns : 2048 ≤ returning
-  pub time : d.clock ≤ LAST_TIME
-
-pub retractable : (c : Constraints) (d : Domains) (p room returning : ℕ) → true ≡ can_retract c d p room returning → Retractable c d p room returning
-retractable c d p room returning e =
-    let a = and_parts (ltb p 128) _ (sym e) in
-    let b = and_parts (is_present c p) _ a.1 in
-    let f = and_parts (not (ltb room 128)) _ b.1 in
-    let g = and_parts (not (ltb returning 2048)) _ f.1 in
-    record {
-      low = ltb-true p 128 a.0;
-      wide = ltb-false room 128 (not-true (ltb room 128) f.0);
-      returns = ltb-false returning 2048 (not-true (ltb returning 2048) g.0);
-      time = ltb-false LAST_TIME d.clock (not-true (ltb LAST_TIME d.clock) g.1);
-    }
-
 -- an engine's constraints and domains stand rightly together
 pub stood : (e : Engine) → Stands e.constraints e.domains
 stood e = stands_out e.constraints e.domains e.stands
@@ -106,17 +68,6 @@ loadable c p left right e =
     }
 
 -- ---- asking
-
-pub asked_low : (c : Constraints) (d : Domains) (i x : ℕ) → Stands c d → x < get_or c.sizes i 0 → i < 32
-asked_low c d i x s h =
-    ⊎_elim (λ l. l) (λ g. absurd (omega (arith, get_or_past c.sizes i 0 (omega (arith, c.sizes_long))))) (cases_lt i 32)
-
-pub justified_by : (c : Constraints) (d : Domains) (i x set : ℕ) (j : Justification) → x < get_or c.sizes i 0 → set ≡ get_or d.sets i 0 → false ≡ has_bit set x → j ≡ record { constraint = (standing d).reason i x; time = (standing d).time i x } → Some j ≡ justification_of c d i x
-justified_by c d i x set j h e out is =
-    let gone : shown d i x ≡ false = ap (λ n. has_bit n x) (sym e) ∙ sym out in
-    ap Some is
-    ∙ sym (cond-true (within c i x && not (shown d i x)) _ None
-    (and_from (within c i x) (not (shown d i x)) (lt-ltb x (get_or c.sizes i 0) h) (not_from_false (shown d i x) gone)))
 
 something_shown : (d : Domains) (i : ℕ) → (get_or d.sets i 0 ≡ 0 → ⊥) → Shown (shown d) i
 something_shown d i nz =

@@ -18,10 +18,6 @@ use Rattle.domains.proofs.Entries.{total_few}
 use Rattle.domains.proofs.Release.{low_push, back_grows, back_cases, was_out, releasing_free}
 use Rattle.engine.specs.Returns.{Roomy, Grew, FreesAmong}
 
--- the test of a value that is out
-pub names_out : (b : Bool) (m n p : ℕ) → false ≡ b → m ≡ n → eqb n p ≡ (not b && eqb m p)
-names_out b m n p e f = ap (λ k. eqb k p) (sym f) ∙ ap (λ t. not t && eqb m p) e
-
 pub names_yes : (b : Bool) (m p : ℕ) → true ≡ (not b && eqb m p) → (b ≡ false) × (m ≡ p)
 names_yes b m p e =
     let h : (not b ≡ true) × (eqb m p ≡ true) = and_parts (not b) (eqb m p) (sym e) in
@@ -83,10 +79,6 @@ pub record Among (c : Constraints) (d d' : Domains) (q q' : Queue Returning) (i 
   pub grew : Grew d d' q q'
   pub frees : FreesAmong c d d' (waits q) (waits q') i p among
   pub below : (k : ℕ) → k < x → has_bit among k ≡ true → (entry d'.why i k).constraint ≡ p → shown d' i k ≡ true
-
-pub among_none : (c : Constraints) (d : Domains) (q : Queue Returning) (i p among : ℕ) → Roomy c d q → Among c d d q q i p among 0
-among_none c d q i p among r =
-    record { roomy = r; grew = grew_refl d q; frees = λ _ _ _ _ h. h; below = λ k h _ _. absurd (omega arith) }
 
 pub among_skip : (c : Constraints) (d d' : Domains) (q q' : Queue Returning) (i p among x : ℕ) → (has_bit among x ≡ true → (entry d'.why i x).constraint ≡ p → shown d' i x ≡ true) → Among c d d' q q' i p among x → Among c d d' q q' i p among (x + 1)
 among_skip c d d' q q' i p among x here a =

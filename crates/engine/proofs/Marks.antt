@@ -70,10 +70,6 @@ module _ (q q' : Queue ℕ) (marks : List Bool) (p : ℕ) (r : Bool) (low : p < 
           omega (arith, f, g, queued.once k))
           (cases_eq p k)
 
--- a marked one stays as it is
-pub mark_again : (marks : List Bool) (p : ℕ) → get_or marks p false ≡ true → marks ≡ set marks p true
-mark_again marks p e = sym (set-get_or marks p false) ∙ ap (λ b. set marks p b) e
-
 -- the first goes, and is unmarked
 module _ (q q' : Queue ℕ) (marks : List Bool) (p : ℕ) (queued : Queued q marks) (waiting : waits q ≡ p ∷ waits q') where
   first_often : often (waits q) p ≡ 1 + often (waits q') p
@@ -111,10 +107,3 @@ module _ (q q' : Queue ℕ) (marks : List Bool) (p : ℕ) (queued : Queued q mar
           let h : number (eqb p k) ≡ 0 = number_false (eqb p k) (ne_eqb p k ne) in
           omega (arith, f, g, h, queued.once k))
           (cases_eq p k)
-
--- none waits: none is marked
-pub queued_empty : (q : Queue ℕ) (marks : List Bool) → Queued q marks → waits q ≡ [] → (p : ℕ) → get_or marks p false ≡ false
-queued_empty q marks queued e p =
-    ⊎_elim
-    (λ t. absurd (omega (arith, queued.once p, ap (λ l. often l p) e, number_true (get_or marks p false) t)))
-    (λ f. f) (cases_Bool (get_or marks p false))

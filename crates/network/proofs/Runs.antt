@@ -16,9 +16,6 @@ use Rattle.network_model.specs.Performs.{Took, rooms_of}
 use Rattle.network.specs.declared.calls.Call.{Call}
 use Rattle.network.specs.Requests.{call_of, calls_of}
 
-pub past_refl : {T : Type 0} (n : ℕ) (room : List T) → Past n room room
-past_refl n room = record { long = refl; rest = refl }
-
 pub past_trans : {T : Type 0} (n : ℕ) (a b c : List T) → Past n a b → Past n b c → Past n a c
 past_trans n a b c p q = record { long = q.long ∙ p.long; rest = q.rest ∙ p.rest }
 

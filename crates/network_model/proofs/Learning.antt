@@ -82,7 +82,3 @@ module _ (m : Meaning) (lawful : Lawful m) (p left right : ℕ) (ends : Some (le
         domains = domains;
         variables = variables;
       }
-
--- it was known already
-pub learnt_already : (m : Meaning) (p : ℕ) (s : State) → get_or s.known p false ≡ true → Linked m s → Learnt m p s s
-learnt_already m p s h linked = record { linked = linked; known = h; sizes = refl; present = refl; domains = refl; variables = refl }

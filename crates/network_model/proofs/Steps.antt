@@ -47,17 +47,6 @@ agrees_refl b = record { sizes = refl; present = λ p. refl }
 
 -- ---- the wiped-out variable of the first n sets
 
-pub wiped_front : (ds : List ℕ) (n : ℕ) (o : Option ℕ) → n ≤ length ds → WipedOut (domains_of (take n ds)) (length (take n ds)) o → WipedOut (domains_of ds) n o
-wiped_front ds n (Some i) h w =
-    let low : i < n = subst (λ l. i < l) (length-take-le n ds h) w.below in
-    record {
-      below = low;
-      empty = λ x. ap (λ d. has_bit d x) (sym (get_or-take n ds i 0 low)) ∙ w.empty x;
-      before = λ j l. let s : Shown (domains_of (take n ds)) j = w.before j l in (s.0, ap (λ d. has_bit d s.0) (sym (get_or-take n ds j 0 (omega arith))) ∙ s.1);
-    }
-wiped_front ds n None h w =
-    λ j l. let s : Shown (domains_of (take n ds)) j = w j (subst (λ k. j < k) (sym (length-take-le n ds h)) l) in (s.0, ap (λ d. has_bit d s.0) (sym (get_or-take n ds j 0 l)) ∙ s.1)
-
 -- ---- what stands in the engine stands in the network
 
 module _ (m : Meaning) (lawful : Lawful m) (c : Constraints) (d : Domains) (n : ℕ) (known : List Bool) (links : Links m c n known) where

@@ -126,15 +126,6 @@ module _ (ks : List (Option Arc)) (k : ℕ) (before after : List ℕ) (lost : Bo
 
 -- ---- a pass
 
-pub swept_none : (ks : List (Option Arc)) (stale : ℕ) (before : List ℕ) → Swept ks stale 0 before before 0
-swept_none ks stale before =
-    record {
-      around = λ b h. h;
-      settled = λ waits i k on t next. ⊎_elim (λ l. absurd (omega arith)) (λ s. waits i k on s) t;
-      no_more = omega arith;
-      fewer = λ h. absurd (omega arith);
-    }
-
 -- the arc at `upto` is off, or its far variable did not change
 pub swept_skip
     : (ks : List (Option Arc)) (stale upto : ℕ) (before after : List ℕ) (next : ℕ) → Swept ks stale upto before after next
