@@ -1,5 +1,4 @@
 -- A constraint goes in or out: what stays.
-use Rattle.domains.specs.declared.TheConstants.{LAST_TIME}
 use Rattle.std.proofs.Common.{◌≡◌, ℕ, ◌+◌, ◌*◌, ◌^◌, ◌<◌, ◌≤◌, Bool, true, false, cond, ◌&&◌, ◌||◌, eqb, ltb, List, length, get_or, sym, refl, ap, ◌∙◌, subst, ⊎_elim, arith}
 use Rattle.std.proofs.lemmas.List.{get_or-set_same, get_or-set_other}
 use Rattle.std.proofs.lemmas.Bool.{cases_eq, both_ways, and_parts, and_from, eqb-false}
@@ -13,7 +12,7 @@ use Rattle.domains.specs.declared.Constraints.{Constraints}
 use Rattle.domains.specs.declared.Domains.{Domains}
 use Rattle.domains.specs.Model.{within, is_present, left_of, right_of, pair_at, arcs_of, shown, standing, total, reason_is}
 use Rattle.domains.specs.Sound.{Shape, Sound, Went, Supported, Settled}
-use Rattle.domains.specs.Stands.{Stands, with_present}
+use Rattle.domains.specs.Stands.{last_time, Stands, with_present}
 use Rattle.domains.proofs.Entries.{total_few}
 use Rattle.domains.proofs.Facing.{on_present, tied_low}
 use Rattle.domains.proofs.Props.{stands_largest}
@@ -89,7 +88,7 @@ module _ (c : Constraints) (d : Domains) (p : ℕ) (low : p < 128) (stands : Sta
       (λ i x on h. stands.consistent i r x on h)
 
 -- the clock does not run over
-pub time_left : (d : Domains) → d.clock ≤ LAST_TIME → d.clock + total d.sets < 2 ^ 32
+pub time_left : (d : Domains) → d.clock ≤ last_time → d.clock + total d.sets < 2 ^ 32
 time_left d h =
     let few : total d.sets ≤ 64 * length d.sets = total_few d.sets d.wide in
     omega (arith, few, d.sets_long)

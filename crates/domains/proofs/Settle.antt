@@ -1,16 +1,16 @@
 -- One constraint is visited from both ends: it is consistent then, and what else lost a support waits.
 use Rattle.std.proofs.Common.{◌≡◌, ℕ, ◌<◌, Bool, true, false, not, eqb, List, get_or, set, sym, ap, ◌∙◌, subst, ⊎_elim}
 use Rattle.std.proofs.lemmas.List.{get_or-set_other}
-use Rattle.std.proofs.lemmas.Bool.{cases_eq, cases_Bool, both_ways, eq-eqb, eqb-true, not-false}
+use Rattle.std.proofs.lemmas.Bool.{cases_eq, cases_Bool, both_ways, eq-eqb}
 use Rattle.arcs.specs.Family.{Support}
 use Rattle.bits.specs.Bits.{has_bit}
 use Rattle.bits.proofs.Coded.{has_low}
 use Rattle.domains.specs.declared.Arc.{Arc}
 use Rattle.domains.specs.declared.Constraints.{Constraints}
 use Rattle.domains.specs.declared.Domains.{Domains}
-use Rattle.domains.specs.Model.{left_of, arcs_of, shown}
+use Rattle.domains.specs.Model.{arcs_of, shown}
 use Rattle.domains.specs.Sound.{Shape, Facing, Revising, Supported, Settled, SettledBut}
-use Rattle.domains.proofs.Facing.{on_at_far, on_left, on_low, on_present}
+use Rattle.domains.proofs.Facing.{on_at_far}
 
 shown_low : (d : Domains) → (i x : ℕ) → shown d i x ≡ true → x < 64
 shown_low d i x h = has_low 64 (get_or d.sets i 0) x (d.wide i) h

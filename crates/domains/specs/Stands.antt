@@ -29,6 +29,10 @@ with_present c p b =
       each_row_long = c.each_row_long;
     }
 
+-- the last time at which a constraint may go in or out: at most 2,048 values go out then, and each takes one of the times below 2 ^ 32
+abbrev pub last_time : ℕ
+last_time = 4294965247
+
 -- a lent room is as long as it was, and past its first n entries as it was
 pub record Past {T : Type 0} (n : ℕ) (room room' : List T) : Type 0 where
   pub long : length room' ≡ length room

@@ -7,7 +7,7 @@ mod make;
 
 pub use make::{capped, full, no_constraints, no_domains};
 
-// The last time at which a constraint may go in or out: at most 2,048 values go out then.
+// The last time at which a constraint may go in or out (`last_time` of the definitions): at most 2,048 values go out then.
 pub const LAST_TIME: u32 = 4_294_965_247;
 
 // Bit x of `sets[i]` says whether the value x of the variable i is shown; `why[i][x]` is its justification.

@@ -17,7 +17,7 @@ use Rattle.domains.specs.Releasing.{Releasing}
 use Rattle.domains.proofs.Facing.{on_low, on_present, on_at_far, ends_of}
 use Rattle.domains.proofs.Release.{releasing_drop}
 use Rattle.engine.specs.Returns.{Roomy, Grew, AllRest, FreesAmong}
-use Rattle.engine.proofs.Frees.{grew_refl, grew_trans}
+use Rattle.engine.proofs.Frees.{grew_trans}
 
 -- of the values whose reason lets the value y of j stand beside them, those with a reason below n are back
 abbrev pub FollowedBelow : Constraints → Domains → Domains → ℕ → ℕ → ℕ → Type 0

@@ -1,23 +1,20 @@
 -- What the tests before a call give, and what a call leaves.
-use Rattle.domains.specs.declared.TheConstants.{LAST_TIME}
-use Rattle.std.proofs.Common.{subst, ◌≡◌, ℕ, ◌<◌, ◌≤◌, min, true, false, cond, not, ◌&&◌, eqb, ltb, List, length, get_or, Some, None, Option, MatchOption, sym, refl, ap, ◌∙◌, ⊎_elim, arith}
-use Rattle.std.proofs.lemmas.List.{get_or_past}
-use Rattle.std.proofs.lemmas.Bool.{and_from, and_parts, cases_lt, cond-true, eq-eqb, eqb-false, lt-ltb, ltb-false, ltb-true, not_from_false, not-true}
+use Rattle.std.proofs.Common.{subst, ◌≡◌, ℕ, ◌<◌, ◌≤◌, min, true, cond, not, ◌&&◌, eqb, ltb, List, length, get_or, Some, None, Option, MatchOption, sym, refl, ap, ◌∙◌, arith}
+use Rattle.std.proofs.lemmas.Bool.{and_parts, eq-eqb, eqb-false, ltb-true, not-true}
 use Rattle.arcs.specs.Family.{Consistent, Inside}
 use Rattle.arcs.specs.WipedOut.{Shown, WipedOut}
 use Rattle.bits.specs.Bits.{bit_at, has_bit}
 use Rattle.bits.proofs.Bitwise.{bit_of_zero, some_bit}
 use Rattle.domains.specs.declared.Constraints.{Constraints}
 use Rattle.domains.specs.declared.Domains.{Domains}
-use Rattle.domains.specs.declared.Justification.{Justification}
-use Rattle.domains.specs.Model.{arcs_of, is_present, left_of, right_of, shown, standing, total, within}
+use Rattle.domains.specs.Model.{arcs_of, is_present, shown, total}
 use Rattle.domains.specs.Sound.{Shape, Sound}
 use Rattle.domains.specs.Stands.{Stands}
 use Rattle.domains.proofs.Entries.{total_inside}
 use Rattle.domains.proofs.Props.{stands_largest, stands_out}
 use Rattle.domains.proofs.Setup.{all_shown, none_at, reopened, sizes_small, stands_open}
 use Rattle.engine.specs.declared.state.Engine.{Engine}
-use Rattle.engine.specs.Calls.{Loadable, can_add, can_load, can_retract, justification_of, Opened, Right}
+use Rattle.engine.specs.Calls.{Loadable, can_load, Opened, Right}
 
 -- an engine's constraints and domains stand rightly together
 pub stood : (e : Engine) → Stands e.constraints e.domains

@@ -5,6 +5,7 @@ mod propagate;
 mod release;
 mod revise;
 mod state;
+mod value;
 mod values;
 
 pub use state::Engine;

@@ -1,7 +1,8 @@
 // The queue of constraints is emptied; afterwards each constraint that is in is consistent.
 // The queue and its marks are two parameters: a struct of both was tried, with the queue in it by value and by `&mut`, and the proof did not
 // close, since it is not known then what the lender of the room gets back (the queue itself holds a `&mut [T]`). `Sound` and the time that is left are
-// asked of constraints and domains each time: within a call they hold in part only, and a type for each stage would be no plainer. That a constraint lies
+// asked of constraints and domains each time: within a call they hold in part only, and a type for each stage would be no plainer. `Shape` is asked beside it: a type of the engine's own around the
+// constraints would be one step more in every public clause that speaks of them. That a constraint lies
 // below 128 is asked of its number: a type with that bound would be made anew from each entry of the queue, whose room is lent as bytes, and at each turn
 // of a loop over all constraints, and taken apart at once where it is an index.
 ghost use Rattle.std.specs.Prelude.{◌≡◌, ℕ, ◌+◌, ◌^◌, ◌<◌, ◌≤◌, true, false, ◌≢◌, Some, slice_index_or, slice_set};

@@ -11,42 +11,39 @@ ghost use Rattle.domains.specs.Sound.{Facing, Shape, Sound};
 ghost use Rattle.engine.specs.Returns.{FreesAmong, Grew, Roomy};
 
 use crate::revise::arc_at;
+use crate::value::Value;
 use crate::values::put_back;
 use domains::{Constraints, Domains, Ends, Returning};
 use queue::Queue;
 
 // Is the value out, with a justification that names the constraint?
-pub(crate) fn names(d: &Domains, variable: usize, value: usize, constraint: usize) -> bool
-    requires variable { variable < 32 }
-    requires value { value < 64 }
-    ensures { result ≡ (not (shown d.now variable value) && (entry d.now.why variable value).constraint == constraint) }
+pub(crate) fn names(d: &Domains, at: Value, constraint: usize) -> bool
+    ensures { result ≡ (not (shown d.now at.variable at.value) && (entry d.now.why at.variable at.value).constraint == constraint) }
 {
-    if bits::has(d.sets[variable], value) {
+    if bits::has(d.sets[at.variable], at.value) {
         return false;
     }
-    d.why[variable][value].constraint == constraint
+    d.why[at.variable][at.value].constraint == constraint
 }
 
 // Puts the value back and lets it wait.
-pub(crate) fn free(d: &mut Domains, q: &mut Queue<'_, Returning>, variable: usize, value: usize)
-    requires variable { variable < 32 }
-    requires value { value < 64 }
-    requires was { shown d.old variable value ≡ false }
+pub(crate) fn free(d: &mut Domains, q: &mut Queue<'_, Returning>, at: Value)
+    requires was { shown d.old at.variable at.value ≡ false }
     requires limit { q.old.limit ≡ 2048 }
     requires few { q.old.len ≤ total d.old.sets }
-    ensures put { PutBack (standing d.old) (standing d.new) variable value }
+    ensures put { PutBack (standing d.old) (standing d.new) at.variable at.value }
     ensures clock { d.new.clock ≡ d.old.clock }
     ensures why { d.new.why ≡ d.old.why }
     ensures more { total d.new.sets ≡ total d.old.sets + 1 }
-    ensures waiting { waits q.new ≡ waits q.old ++ (record { variable = variable; value = value; time = (entry d.old.why variable value).time } ∷ []) }
+    ensures waiting { waits q.new ≡ waits q.old ++ (record { variable = at.variable; value = at.value; time = (entry d.old.why at.variable at.value).time } ∷ []) }
     ensures len { q.new.len ≡ q.old.len + 1 }
     ensures kept { Kept q.old q.new }
 {
-    put_back(d, variable, value);
-    let time = d.why[variable][value].time;
+    put_back(d, at);
+    let time = d.why[at.variable][at.value].time;
     let _ = q.push(Returning {
-        variable: variable as u8,
-        value: value as u8,
+        variable: at.variable as u8,
+        value: at.value as u8,
         time,
     });
 }
@@ -71,8 +68,9 @@ pub(crate) fn free_among(
     let size = c.sizes[variable] as usize;
     for x in 0..size {
         if bits::has(among, x) {
-            if names(d, variable, x, constraint) {
-                free(d, q, variable, x);
+            let at = Value { variable, value: x };
+            if names(d, at, constraint) {
+                free(d, q, at);
             }
         }
     }

@@ -3,6 +3,7 @@ ghost use Rattle.std.specs.Prelude.{◌≡◌, ℕ, ◌+◌, ◌^◌, ◌<◌, �
 ghost use Rattle.domains.specs.Model.{arcs_of, total};
 ghost use Rattle.domains.specs.Sound.{Facing, RevisedBelow, Revising, Shape, Sound, Went};
 
+use crate::value::Value;
 use crate::values::put_out;
 use domains::{Arc, Constraints, Domains};
 
@@ -49,7 +50,11 @@ pub(crate) fn revise(c: &Constraints, d: &mut Domains, arc: Arc) -> bool
     for (x, row) in c.rows[arc.rows].iter().enumerate() {
         if bits::has(d.sets[arc.near], x) {
             if supports & *row == 0 {
-                put_out(d, arc.near, x, arc.constraint);
+                let at = Value {
+                    variable: arc.near,
+                    value: x,
+                };
+                put_out(d, at, arc.constraint);
             }
         }
     }

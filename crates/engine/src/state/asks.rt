@@ -4,15 +4,14 @@ ghost use Rattle.domains.specs.Model.{entry, is_present, shown};
 ghost use Rattle.engine.specs.Calls.{justification_of};
 
 use super::Engine;
+use crate::value::Value;
 use domains::{Domains, Justification};
 
 // What stands of the value.
-fn read(d: &Domains, variable: usize, value: usize) -> Justification
-    requires variable { variable < 32 }
-    requires value { value < 64 }
-    ensures { result ≡ entry d.now.why variable value }
+fn read(d: &Domains, at: Value) -> Justification
+    ensures { result ≡ entry d.now.why at.variable at.value }
 {
-    d.why[variable][value]
+    d.why[at.variable][at.value]
 }
 
 impl Engine {
@@ -59,7 +58,7 @@ impl Engine {
         if bits::has(self.domain(variable), value) {
             return None;
         }
-        Some(read(&self.domains, variable, value))
+        Some(read(&self.domains, Value { variable, value }))
     }
 
     // The lowest of the first n variables that has no value left. Not by the crate `wiped`, whose domains are a list: n may pass the 32 variables here,

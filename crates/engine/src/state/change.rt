@@ -4,10 +4,9 @@ ghost use Rattle.arcs.specs.Family.{Inside};
 ghost use Rattle.justify.specs.Changes.{Released, Same};
 ghost use Rattle.justify.specs.Standing.{Out, Rests};
 ghost use Rattle.queue.specs.Waiting.{Kept};
-ghost use Rattle.domains.specs.declared.TheConstants.{LAST_TIME};
 ghost use Rattle.domains.specs.Model.{arcs_of, left_of, reason_is, right_of, shown, standing, within};
 ghost use Rattle.domains.specs.Sound.{Went};
-ghost use Rattle.domains.specs.Stands.{Past, Stands, with_present};
+ghost use Rattle.domains.specs.Stands.{Past, Stands, last_time, with_present};
 ghost use Rattle.engine.specs.Queued.{Queued};
 
 use super::Engine;
@@ -55,7 +54,7 @@ impl Engine {
     pub(super) fn put_in(&mut self, constraint: usize, waiting: &mut [u8])
         requires low { constraint < 128 }
         requires apart { left_of self.old.constraints constraint ≢ right_of self.old.constraints constraint }
-        requires time { self.old.domains.clock ≤ LAST_TIME }
+        requires time { self.old.domains.clock ≤ last_time }
         requires room { 128 ≤ length waiting.old }
         ensures present { self.new.constraints ≡ with_present self.old.constraints constraint true }
         ensures went { Went self.new.constraints self.old.domains self.new.domains }
@@ -80,7 +79,7 @@ impl Engine {
         returning: &mut [Returning],
     )
         requires low { constraint < 128 }
-        requires time { self.old.domains.clock ≤ LAST_TIME }
+        requires time { self.old.domains.clock ≤ last_time }
         requires room { 128 ≤ length waiting.old }
         requires returns { 2048 ≤ length returning.old }
         ensures absent { self.new.constraints ≡ with_present self.old.constraints constraint false }

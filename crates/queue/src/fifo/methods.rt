@@ -3,26 +3,6 @@ ghost use Rattle.queue.specs.Waiting.{Kept, Over, waits};
 
 use super::Queue;
 
-// Where the next entry goes: after the last one, from the start again past the limit.
-fn tail(limit: usize, head: usize, len: usize) -> usize
-    requires { (head ≤ limit) × (len < limit) }
-    ensures { result ≡ (if nat_lt len (limit - head) then head + len else len - (limit - head)) }
-{
-    let to_end = limit - head;
-    if len < to_end {
-        head + len
-    } else {
-        len - to_end
-    }
-}
-
-// Where the first entry stands: at the head, or at the start where the head has come to the limit.
-fn start(limit: usize, head: usize) -> usize
-    ensures { result ≡ (if nat_lt head limit then head else 0) }
-{
-    if head < limit { head } else { 0 }
-}
-
 impl<'a, T: Copy> Queue<'a, T> {
     // An empty queue over the room, for at most `limit` entries and no more than the room has.
     pub fn new(room: &'a mut [T], limit: usize) -> Queue<'a, T>
@@ -50,6 +30,26 @@ impl<'a, T: Copy> Queue<'a, T> {
         }
     }
 
+    // Where the next entry goes: after the last one, from the start again past the limit.
+    fn tail(&self) -> usize
+        requires { self.now.len < self.now.limit }
+        ensures { result ≡ (if nat_lt self.now.len (self.now.limit - self.now.head) then self.now.head + self.now.len else self.now.len - (self.now.limit - self.now.head)) }
+    {
+        let to_end = self.limit - self.head;
+        if self.len < to_end {
+            self.head + self.len
+        } else {
+            self.len - to_end
+        }
+    }
+
+    // Where the first entry stands: at the head, or at the start where the head has come to the limit.
+    fn start(&self) -> usize
+        ensures { result ≡ (if nat_lt self.now.head self.now.limit then self.now.head else 0) }
+    {
+        if self.head < self.limit { self.head } else { 0 }
+    }
+
     // One more at the end, or the entry back and nothing altered where there is no room.
     pub fn push(&mut self, entry: T) -> Result<(), T>
         ensures fits { is_ok result ≡ nat_lt self.old.len self.old.limit }
@@ -61,7 +61,7 @@ impl<'a, T: Copy> Queue<'a, T> {
         if self.len >= self.limit {
             return Err(entry);
         }
-        let place = tail(self.limit, self.head, self.len);
+        let place = self.tail();
         self.room[place] = entry;
         self.len += 1;
         Ok(())
@@ -76,7 +76,7 @@ impl<'a, T: Copy> Queue<'a, T> {
         if self.len == 0 {
             return None;
         }
-        let head = start(self.limit, self.head);
+        let head = self.start();
         let entry = self.room[head];
         self.head = head + 1;
         self.len -= 1;

@@ -13,8 +13,6 @@ put_out-requires c =
     let was : shown c.loop-x.d c.args.arc.near c.loop-x.x ≡ true = sym c.if-has.ensures in
     let some = total_positive c.loop-x.d c.args.arc.near c.loop-x.x c.requires.facing.near_low low was in
     record {
-      variable = c.requires.facing.near_low;
-      value = low;
       time = omega (arith, some, c.loop-x.invariant.went.spent, c.requires.time);
       was = was;
     }

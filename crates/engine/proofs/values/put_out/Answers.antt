@@ -5,16 +5,16 @@ use Rattle.engine.proofs.values.put_out.Goals as goal
 pub returns : goal.returns
 returns c =
     let d = c.args.d.now in
-    let i = c.args.variable in
-    let x = c.args.value in
+    let i = c.args.at.variable in
+    let x = c.args.at.value in
     record {
-      put = put_out d i x c.requires.variable c.requires.value c.args.constraint c.requires.was;
+      put = put_out d i x c.args.at.variable_low c.args.at.value_low c.args.constraint c.requires.was;
       clock = refl;
-      fewer = out_total d i x c.requires.variable c.requires.value c.args.constraint c.requires.was;
-      others = sets_others d i x c.requires.variable c.requires.value _;
+      fewer = out_total d i x c.args.at.variable_low c.args.at.value_low c.args.constraint c.requires.was;
+      others = sets_others d i x c.args.at.variable_low c.args.at.value_low _;
     }
 
 pub invariant_of-d : goal.invariant_of-d
 invariant_of-d c =
-    let e = without c.args.d.now c.args.variable c.args.value c.requires.variable c.requires.value c.args.constraint in
+    let e = without c.args.d.now c.args.at.variable c.args.at.value c.args.at.variable_low c.args.at.value_low c.args.constraint in
     record { sets_long = e.sets_long; why_long = e.why_long; each_why_long = e.each_why_long; wide = e.wide }
