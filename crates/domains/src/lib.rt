@@ -10,7 +10,9 @@ pub use make::{capped, full, no_constraints, no_domains};
 // The last time at which a constraint may go in or out (`last_time` of the definitions): at most 2,048 values go out then.
 pub const LAST_TIME: u32 = 4_294_965_247;
 
-// Bit x of `sets[i]` says whether the value x of the variable i is shown; `why[i][x]` is its justification.
+// Bit x of `sets[i]` says whether the value x of the variable i is shown; `why[i][x]` is its justification, which counts for nothing while it is: an
+// `Option` would say again what the bit says, by which rows are met. The sets stand apart from the justifications, since a retraction keeps all sets as they
+// were and compares them after, 256 bytes, and not the 32 kilobytes that they would lie among.
 #[derive(Drop)]
 pub struct Domains {
     pub sets: [u64; 32],
@@ -24,10 +26,10 @@ pub struct Domains {
 
 // The variables' sizes, and the constraints by their index: whether each is in, its two ends, and its rows of supports on the sides of both.
 // `rows[2 * p][x]` has bit y, and `rows[2 * p + 1][y]` has bit x, where p lets x of its left end stand beside y of its right end: an arc has one number for
-// its rows, as those of a computation from scratch have. Presence, ends and rows
-// stand apart: an opening takes every constraint out in one write and leaves the ends, for which a struct of both would need a loop; and the constraints at
-// a variable are found by a walk over all ends, 256 bytes of them, which with the rows between them would reach over 130 kilobytes. Only what is true of any
-// arrays of these types stands in the type: what else is asked of constraints is `Shape`, since anyone may make such a value.
+// its rows, where a pair of sides for each constraint would want two. Presence, ends and rows stand apart, since each is used for all constraints by itself:
+// an opening takes every one out in one write and leaves ends and rows, which of a struct for each would be a loop with a proof of its own. Ends that were
+// never given are twice 0, which given ones never are: of `Option<Ends>` every reader would take out what is there wherever a constraint is in. Only what
+// is true of any arrays of these types stands in the type: what else is asked of constraints is `Shape`, since anyone may make such a value.
 #[derive(Drop)]
 pub struct Constraints {
     pub sizes: [u8; 32],

@@ -1,5 +1,6 @@
 -- What the tests before a call give, and what a call leaves.
-use Rattle.std.proofs.Common.{subst, ◌≡◌, ℕ, ◌<◌, ◌≤◌, min, true, cond, not, ◌&&◌, eqb, ltb, List, length, get_or, Some, None, Option, MatchOption, sym, refl, ap, ◌∙◌, arith}
+use Rattle.std.proofs.Common.{subst, ◌≡◌, ℕ, ◌<◌, ◌≤◌, min, Bool, true, false, cond, not, ◌&&◌, ◌||◌, eqb, ltb, List, length, get_or, Some, None, Option, MatchOption, sym, refl, ap, ◌∙◌, arith}
+use Rattle.std.specs.Option.{is_none}
 use Rattle.std.proofs.lemmas.Bool.{and_parts, eq-eqb, eqb-false, ltb-true, not-true}
 use Rattle.arcs.specs.Family.{Consistent, Inside}
 use Rattle.arcs.specs.WipedOut.{Shown, WipedOut}
@@ -14,7 +15,8 @@ use Rattle.domains.proofs.Entries.{total_inside}
 use Rattle.domains.proofs.Props.{stands_largest, stands_out}
 use Rattle.domains.proofs.Setup.{all_shown, none_at, reopened, sizes_small, stands_open}
 use Rattle.engine.specs.declared.state.Engine.{Engine}
-use Rattle.engine.specs.Calls.{Loadable, can_load, Opened, Right}
+use Rattle.engine.specs.declared.fault.LoadFault.TheVariants.{NoSuchConstraint, AlreadyIn, EndOutside, SameEnds}
+use Rattle.engine.specs.Calls.{Loadable, can_load, load_fault, Opened, Right}
 
 -- an engine's constraints and domains stand rightly together
 pub stood : (e : Engine) → Stands e.constraints e.domains
@@ -50,8 +52,21 @@ module _ (c : Constraints) (d d' : Domains) (given sizes : List ℕ) (stands : S
         stands = right_now (reopened c sizes long) d' (stands_open c d d' sizes stands long (sizes_small sizes given capped) full);
       })
 
-pub loadable : (c : Constraints) (p left right : ℕ) → true ≡ can_load c p left right → Loadable c p left right
-loadable c p left right e =
+-- nothing speaks against it just where it can be
+fault_none : (a b l r e : Bool) → (a && (not b && (l && (r && not e)))) ≡ is_none (cond (not a) (Some NoSuchConstraint) (cond b (Some AlreadyIn) (cond (not l || not r) (Some EndOutside) (cond e (Some SameEnds) None))))
+fault_none false b l r e = refl
+fault_none true true l r e = refl
+fault_none true false false r e = refl
+fault_none true false true false e = refl
+fault_none true false true true true = refl
+fault_none true false true true false = refl
+
+can_or_fault : (c : Constraints) (p left right : ℕ) → can_load c p left right ≡ is_none (load_fault c p left right)
+can_or_fault c p left right = fault_none (ltb p 128) (is_present c p) (ltb left 32) (ltb right 32) (eqb left right)
+
+pub loadable : (c : Constraints) (p left right : ℕ) → None ≡ load_fault c p left right → Loadable c p left right
+loadable c p left right none =
+    let e : true ≡ can_load c p left right = ap is_none none ∙ sym (can_or_fault c p left right) in
     let a = and_parts (ltb p 128) _ (sym e) in
     let b = and_parts (not (is_present c p)) _ a.1 in
     let f = and_parts (ltb left 32) _ b.1 in

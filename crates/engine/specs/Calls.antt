@@ -1,8 +1,10 @@
 -- What a call on an engine does.
-use Rattle.std.specs.Prelude.{◌≡◌, ℕ, ◌+◌, ◌<◌, ◌≤◌, min, Bool, true, false, cond, not, ◌&&◌, List, Some, None, Option, ◌==◌, nat_lt, slice_index}
+use Rattle.std.specs.Prelude.{◌≡◌, ℕ, ◌+◌, ◌<◌, ◌≤◌, min, Bool, true, false, cond, not, ◌&&◌, ◌||◌, List, Some, None, Option, ◌==◌, nat_lt, slice_index}
 use Rattle.arcs.specs.Family.{Inside, Largest}
 use Rattle.justify.specs.Standing.{Out, Justified, Timed, Rests}
 use Rattle.justify.specs.Changes.{Same}
+use Rattle.engine.specs.declared.fault.LoadFault.{LoadFault}
+use Rattle.engine.specs.declared.fault.LoadFault.TheVariants.{NoSuchConstraint, AlreadyIn, EndOutside, SameEnds}
 use Rattle.domains.specs.declared.Constraints.{Constraints}
 use Rattle.domains.specs.declared.Domains.{Domains}
 use Rattle.domains.specs.declared.Justification.{Justification}
@@ -44,6 +46,14 @@ pub record Retracted (c c' : Constraints) (d d' : Domains) (p n : ℕ) : Type 0 
 -- can p be given its ends and rows: it is not in, and the ends are two different variables below 32
 abbrev pub can_load : Constraints → ℕ → ℕ → ℕ → Bool
 can_load c p left right = nat_lt p 128 && (not (is_present c p) && (nat_lt left 32 && (nat_lt right 32 && not (left == right))))
+
+-- why it cannot: the first cause that holds
+abbrev pub load_fault : Constraints → ℕ → ℕ → ℕ → Option LoadFault
+load_fault c p left right =
+    cond (not (nat_lt p 128)) (Some NoSuchConstraint)
+    (cond (is_present c p) (Some AlreadyIn)
+    (cond (not (nat_lt left 32) || not (nat_lt right 32)) (Some EndOutside)
+    (cond (left == right) (Some SameEnds) None)))
 
 -- none is in, every value below the sizes is shown, and the clock is set; sizes past 32 are left out, and none is above 64
 pub record Opened (c c' : Constraints) (d' : Domains) (given : List ℕ) (time : ℕ) : Type 0 where

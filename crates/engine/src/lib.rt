@@ -1,6 +1,7 @@
 // Incremental arc consistency with justifications, on plain data.
 #![tactic(auto)]
 
+mod fault;
 mod propagate;
 mod release;
 mod revise;
@@ -8,4 +9,5 @@ mod state;
 mod value;
 mod values;
 
+pub use fault::LoadFault;
 pub use state::Engine;

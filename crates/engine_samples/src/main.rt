@@ -74,10 +74,9 @@ impl Bench {
         ends: (usize, usize),
         pairs: Pairs,
     ) -> io::Result<()> {
-        if self.engine.load(constraint, ends.0, ends.1, &pairs.rows()) {
-            Ok(())
-        } else {
-            println!(rt; "load {constraint} refused")
+        match self.engine.load(constraint, ends.0, ends.1, &pairs.rows()) {
+            Ok(()) => Ok(()),
+            Err(_) => println!(rt; "load {constraint} refused"),
         }
     }
 

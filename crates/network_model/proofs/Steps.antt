@@ -1,9 +1,8 @@
 -- Each call is a step of the law.
-use Rattle.std.proofs.Common.{◌≡◌, ℕ, ◌<◌, ◌≤◌, Bool, true, false, cond, eqb, List, length, get_or, take, Some, None, Option, sym, refl, ap, ◌∙◌, subst, arith}
-use Rattle.std.proofs.lemmas.List.{length-take-le, get_or-take}
+use Rattle.std.proofs.Common.{◌≡◌, ℕ, ◌<◌, Bool, true, false, cond, eqb, List, length, get_or, take, Some, None, Option, sym, refl, ap, ◌∙◌, subst, arith}
+use Rattle.std.proofs.lemmas.List.{length-take-le}
 use Rattle.arcs.specs.Family.{Largest, within_sizes}
-use Rattle.arcs.specs.WipedOut.{WipedOut, Shown}
-use Rattle.bits.specs.Bits.{has_bit, domains_of}
+use Rattle.arcs.specs.WipedOut.{WipedOut}
 use Rattle.catalog.specs.Meaning.{Meaning, Lawful}
 use Rattle.catalog.specs.Constraints.{arcs_of}
 use Rattle.justify.specs.Standing.{Out, Justified, Timed, Rests}

@@ -5,8 +5,9 @@ ghost use Rattle.std.specs.Prelude.{◌≡◌, length};
 
 use engine::Engine;
 
-// The engine, how many variables there are, and of which constraints the engine has the ends and the rows. The number and the marks stand
-// beside the engine's arrays, which are of fixed length: a network takes no memory after it is made.
+// The engine, how many variables there are, and of which constraints the engine has the ends and the rows. How many variables there are is known here alone:
+// the engine opens with any bytes, and has 32 sizes and 32 sets, 0 where none was given; with a list of sizes that knows its length, every place in these
+// arrays would be asked to lie below it.
 #[derive(Drop)]
 pub struct State {
     pub engine: Engine,

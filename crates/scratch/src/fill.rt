@@ -26,7 +26,8 @@ impl Arc {
 }
 
 impl<C: Catalog> Request<'_, C> {
-    // Keeps the constraint `p` both ways, unless it is kept already.
+    // Keeps the constraint `p` both ways, unless it is kept already. Its arcs are entries 2 * p and 2 * p + 1 of one list, and no pair, since a pass goes
+    // over all arcs alike, and a value's support is told by its arc's number.
     fn keep(&self, p: usize, arcs: &mut [Option<Arc>; 256])
         requires { constraint_refusal (C.Catalog.meaning self.now.catalog.now) (length self.now.sizes.now) p ≡ None }
         ensures { Adds (C.Catalog.meaning self.now.catalog.now) self.now.sizes.now p arcs.old arcs.new }
@@ -65,7 +66,7 @@ pub(crate) fn whole(sizes: &[usize], domains: &mut [u64])
     requires bounded { Bounded sizes.now }
     ensures { (i x : ℕ) → domains_of domains.new i x ≡ within_sizes sizes.now i x }
 {
-    // By index: of an adapter such as `domains.iter_mut().zip(sizes)` nothing is known after the loop.
+    // By index: with `domains.iter_mut().zip(sizes)` the proof did not close, since nothing is known of the domains after the loop.
     for (i, domain) in domains.iter_mut().enumerate() {
         *domain = bits::below(sizes[i]);
     }

@@ -7,14 +7,17 @@ ghost use Rattle.catalog.specs.Meaning.{allowed};
 
 use catalog::Catalog;
 
-// The values below `size` of the right end that the constraint `p` allows beside the value `x` of the left end.
+// The values below `right_size` of the right end that the constraint `p` allows beside the value `x` of the left end, if that is below `left_size`.
 #[tactic(auto, using(bits::proofs::Bitwise::has_of_zero))]
-fn row<C: Catalog>(catalog: &C, p: usize, x: usize, size: usize) -> u64
-    ensures { (y : ℕ) → has_bit result y ≡ (nat_lt y size && allowed (C.Catalog.meaning catalog.now) p x y) }
+fn row<C: Catalog>(catalog: &C, p: usize, x: usize, left_size: usize, right_size: usize) -> u64
+    ensures { (y : ℕ) → has_bit result y ≡ (nat_lt x left_size && (nat_lt y right_size && allowed (C.Catalog.meaning catalog.now) p x y)) }
 {
+    if x >= left_size {
+        return 0;
+    }
     let mut row = 0;
     // The number y is a value itself, of which the catalog is asked.
-    for y in 0..size.min(64) {
+    for y in 0..right_size.min(64) {
         if catalog.allows(p, x, y) {
             row = bits::with(row, y);
         }
@@ -29,9 +32,8 @@ pub fn rows<C: Catalog>(catalog: &C, p: usize, left_size: usize, right_size: usi
     ensures { (x y : ℕ) → has_bit (slice_index result x) y ≡ (nat_lt x left_size && (nat_lt y right_size && allowed (C.Catalog.meaning catalog.now) p x y)) }
 {
     let mut rows = [0; 64];
-    // By index: the loop stops at a size. With `iter_mut().enumerate().take(..)` the invariant has no index to go by, and of `array::from_fn` the proof did not close.
-    for x in 0..left_size.min(64) {
-        rows[x] = row(catalog, p, x, right_size);
+    for (x, entry) in rows.iter_mut().enumerate() {
+        *entry = row(catalog, p, x, left_size, right_size);
     }
     rows
 }

@@ -1,22 +1,36 @@
-ghost use Rattle.std.specs.Prelude.{◌≡◌, ℕ, ◌+◌, ◌<◌, ◌≤◌, true, false, ◌⊎◌, length, MatchBool, slice_index};
+ghost use Rattle.std.specs.Prelude.{◌≡◌, ℕ, ◌+◌, ◌<◌, ◌≤◌, true, false, ◌⊎◌, length, MatchBool, is_ok, slice_index};
+ghost use Rattle.std.specs.Result.{result_err};
 ghost use Rattle.domains.specs.Make.{no_constraints, no_domains};
 ghost use Rattle.domains.specs.Stands.{Loaded};
 ghost use Rattle.domains.specs.Sound.{Shape};
-ghost use Rattle.engine.specs.Calls.{Loadable, Opened, can_load};
+ghost use Rattle.engine.specs.Calls.{Loadable, Opened, can_load, load_fault};
 
 use super::Engine;
+use crate::fault::LoadFault;
 use domains::{Constraints, Ends, capped, full, no_constraints, no_domains};
 
-fn can_load(c: &Constraints, constraint: usize, left: usize, right: usize) -> bool
-    ensures { result ≡ can_load c.now constraint left right }
+// May the constraint be given these ends? They are two numbers, here and in `write`, as the public `load` takes them.
+fn check_load(
+    c: &Constraints,
+    constraint: usize,
+    left: usize,
+    right: usize,
+) -> Result<(), LoadFault>
+    ensures { result_err result ≡ load_fault c.now constraint left right }
 {
     if constraint >= 128 {
-        return false;
+        return Err(LoadFault::NoSuchConstraint);
     }
     if c.present[constraint] {
-        return false;
+        return Err(LoadFault::AlreadyIn);
     }
-    left < 32 && right < 32 && left != right
+    if left >= 32 || right >= 32 {
+        return Err(LoadFault::EndOutside);
+    }
+    if left == right {
+        return Err(LoadFault::SameEnds);
+    }
+    Ok(())
 }
 
 // Gives a constraint that is not in its ends and its rows.
@@ -59,17 +73,21 @@ impl Engine {
         self.domains.clock = time;
     }
 
-    // Gives a constraint that is not in its two ends and, for each value of the left one, the set of those that may stand beside it. Says whether it did:
-    // a network keeps the answer as its note of what is known, and would make that flag of an error again.
-    pub fn load(&mut self, constraint: usize, left: usize, right: usize, rows: &[u64; 64]) -> bool
-        ensures can { result ≡ can_load self.old.constraints constraint left right }
-        ensures loaded { MatchBool result (Loaded self.old.constraints self.new.constraints constraint left right rows.now) (self.new.constraints ≡ self.old.constraints) }
+    // Gives a constraint that is not in its two ends and, for each value of the left one, the set of those that may stand beside it.
+    pub fn load(
+        &mut self,
+        constraint: usize,
+        left: usize,
+        right: usize,
+        rows: &[u64; 64],
+    ) -> Result<(), LoadFault>
+        ensures can { is_ok result ≡ can_load self.old.constraints constraint left right }
+        ensures fault { result_err result ≡ load_fault self.old.constraints constraint left right }
+        ensures loaded { MatchBool (is_ok result) (Loaded self.old.constraints self.new.constraints constraint left right rows.now) (self.new.constraints ≡ self.old.constraints) }
         ensures domains { self.new.domains ≡ self.old.domains }
     {
-        if !can_load(&self.constraints, constraint, left, right) {
-            return false;
-        }
+        check_load(&self.constraints, constraint, left, right)?;
         write(&mut self.constraints, constraint, left, right, rows);
-        true
+        Ok(())
     }
 }

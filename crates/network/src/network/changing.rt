@@ -1,5 +1,6 @@
-// Constraints go in and out. The two rooms are two parameters in all of these functions, since the public calls take them so, and may be given rooms of
-// any length that lie anywhere; the engine's add takes the first alone.
+// Constraints go in and out. The two rooms are two parameters, here and where their lengths are checked, since the public calls take them so, and may be given
+// rooms of any length that lie anywhere; the engine's add takes the first alone. That the catalog stays is said by each call: it is what the call leaves, and
+// no fact of a value that a type could hold.
 ghost use Rattle.std.specs.Prelude.{◌≡◌, false, length, IfOk, MatchResult, OnErr};
 ghost use Rattle.arcs.specs.WipedOut.{WipedOut};
 ghost use Rattle.domains.specs.Model.{shown};

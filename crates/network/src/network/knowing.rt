@@ -23,7 +23,8 @@ impl<C: Catalog> Network<C> {
                 self.state.engine.size(left),
                 self.state.engine.size(right),
             );
-            self.state.known[constraint] = self.state.engine.load(constraint, left, right, &rows);
+            let loaded = self.state.engine.load(constraint, left, right, &rows);
+            self.state.known[constraint] = loaded.is_ok();
         }
     }
 }

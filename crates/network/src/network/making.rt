@@ -21,8 +21,8 @@ fn narrow(sizes: &[usize]) -> [u8; 32]
     ensures { (i : ℕ) → slice_index result i ≡ slice_index sizes.now i }
 {
     let mut all = [0; 32];
-    // By index: of an adapter such as `all.iter_mut().zip(sizes)` nothing is known after the loop, and of `array::from_fn` not that the captured slice is
-    // the same at each call.
+    // By index: of `all.iter_mut().zip(sizes)` nothing is known after the loop, of `array::from_fn` not that the captured slice is the same at each call
+    // (both tried), and a copy and a `map`, as for sizes that are bytes, would have to know of each size that it fits one.
     for (i, size) in sizes.iter().enumerate() {
         all[i] = *size as u8;
     }

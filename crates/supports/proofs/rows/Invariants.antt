@@ -3,10 +3,10 @@ use Rattle.bits.specs.Bits.{has_bit}
 use Rattle.catalog.specs.Meaning.{allowed}
 use Rattle.supports.proofs.rows.Given as goal
 
--- the rows below x are written, and the others are empty
+-- the rows below x are as they should be, and the others are empty
 abbrev pub invariant-loop-x : goal.invariant-loop-x
 invariant-loop-x g l = record {
-  long : length l.rows ≡ 64;
-  done : (z y : ℕ) → z < l.x → has_bit (get_or l.rows z 0) y ≡ (ltb y l.right_size && allowed (g.C.Catalog.meaning l.catalog) l.p z y);
-  later : (z : ℕ) → l.x ≤ z → get_or l.rows z 0 ≡ 0;
+  long : length l.entry-items ≡ 64;
+  done : (z y : ℕ) → z < l.x → has_bit (get_or l.entry-items z 0) y ≡ (ltb z l.left_size && (ltb y l.right_size && allowed (g.C.Catalog.meaning l.catalog) l.p z y));
+  later : (z : ℕ) → l.x ≤ z → get_or l.entry-items z 0 ≡ 0;
 }
