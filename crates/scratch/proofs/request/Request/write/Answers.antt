@@ -5,16 +5,6 @@ use Rattle.scratch.proofs.Accepting.{accepted}
 use Rattle.scratch.proofs.Translating.{kept_placed, written}
 use Rattle.scratch.proofs.request.Request.write.Goals as goal
 
-pub fill-arcs-requires : goal.fill-arcs-requires
-fill-arcs-requires g c =
-    let a = accepted (g.C.Catalog.meaning c.args.self.now.catalog.now) c.args.self.now.sizes.now c.args.self.now.indices.now (length c.args.out.now) c.requires in
-    a.each
-
-pub whole-requires : goal.whole-requires
-whole-requires g c =
-    let a = accepted (g.C.Catalog.meaning c.args.self.now.catalog.now) c.args.self.now.sizes.now c.args.self.now.indices.now (length c.args.out.now) c.requires in
-    record { len = length-take-le _ c.args.out.now (omega (arith, a.wide)) ∙ sub-zero (length c.args.self.now.sizes.now); bounded = a.bounded }
-
 pub settle-requires : goal.settle-requires
 settle-requires g c =
     let m = g.C.Catalog.meaning c.args.self.now.catalog.now in
