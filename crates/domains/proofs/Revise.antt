@@ -1,5 +1,5 @@
 -- One turn on the way through the values of an arc's near variable.
-use Rattle.std.proofs.Common.{◌≡◌, ℕ, ◌+◌, ◌<◌, true, get_or, sym, refl, ap, ◌∙◌, ⊎_elim, arith}
+use Rattle.std.proofs.Common.{◌≡◌, ℕ, ◌+◌, ◌<◌, true, get_or, sym, ap, ◌∙◌, ⊎_elim, arith}
 use lib.Bits.{bit_and}
 use Rattle.std.proofs.lemmas.Bool.{cases_eq, cases_lt, both_ways}
 use Rattle.arcs.specs.Family.{Support}
@@ -9,7 +9,7 @@ use Rattle.bits.proofs.Coded.{has_low}
 use Rattle.justify.specs.Standing.{Timed}
 use Rattle.justify.specs.Changes.{PutOut}
 use Rattle.justify.specs.Theorems.{OutKept}
-use Rattle.justify.proofs.Keeps.{same_refl, same_trans, put_out_keeps}
+use Rattle.justify.proofs.Keeps.{same_trans, put_out_keeps}
 use Rattle.domains.specs.declared.Arc.{Arc}
 use Rattle.domains.specs.declared.Constraints.{Constraints}
 use Rattle.domains.specs.declared.Domains.{Domains}
@@ -21,10 +21,6 @@ pub total_positive : (d : Domains) (i x : ℕ) → i < 32 → x < 64 → shown d
 total_positive d i x low fits was = omega (arith, out_total d i x low fits 0 was)
 
 -- ---- values go out
-
-pub went_refl : (c : Constraints) (d : Domains) → Went c d d
-went_refl c d =
-    record { fewer = λ i x h. h; kept = λ i x _. same_refl (standing d) i x; spent = refl; later = omega arith; idle = λ _. refl }
 
 pub went_trans : (c : Constraints) (d d' d'' : Domains) → Went c d d' → Went c d' d'' → Went c d d''
 went_trans c d d' d'' p q =

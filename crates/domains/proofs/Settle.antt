@@ -36,15 +36,6 @@ settled_marked c d d' a marks marks' shape rev more marked settled r un ne =
     (⊎_elim (λ t. absurd (both_ways (get_or marks' r false) un (more r t))) (λ t. t) (cases_Bool (get_or marks r false)))
     ne)
 
--- without a change
-pub supported_same : (c : Constraints) (d d' : Domains) (r : ℕ) → d'.sets ≡ d.sets → Supported c d r → Supported c d' r
-supported_same c d d' r e sup i x on h =
-    let s : Support (arcs_of c) (shown d) i r x = sup i x on (sym (at i x) ∙ h) in
-    record { value = s.value; shown = at ((arcs_of c).far i r) s.value ∙ s.shown; beside = s.beside }
-  where
-    at : (j y : ℕ) → shown d' j y ≡ shown d j y
-    at j y = ap (λ l. has_bit (get_or l j 0) y) e
-
 -- the visited constraint is consistent: what went out at the second end supported nothing at the first
 module _ (c : Constraints) (d d' d'' : Domains) (a b : Arc) (fa : Facing c a) (fb : Facing c b) (near : b.near ≡ a.far) (same : b.constraint ≡ a.constraint) (ra : Revising c d d' a 64) (rb : Revising c d' d'' b 64) where
   far_back : b.far ≡ a.near

@@ -5,7 +5,7 @@ use Rattle.std.proofs.lemmas.Bool.{cases_Bool, both_ways, and_parts, not-true, e
 use Rattle.bits.specs.Bits.{has_bit}
 use Rattle.justify.specs.Standing.{Out, Rests}
 use Rattle.justify.specs.Changes.{PutBack}
-use Rattle.engine.proofs.Kept.{kept_refl, kept_trans}
+use Rattle.engine.proofs.Kept.{kept_trans}
 use Rattle.queue.specs.declared.fifo.Queue.{Queue}
 use Rattle.queue.specs.Waiting.{waits, Kept}
 use Rattle.domains.specs.declared.Constraints.{Constraints}
@@ -33,10 +33,6 @@ pub some_room : (d d' : Domains) (n limit : ℕ) → limit ≡ 2048 → n ≤ to
 some_room d d' n limit e few more =
     let t : total d'.sets ≤ 64 * length d'.sets = total_few d'.sets d'.wide in
     omega (arith, t, d'.sets_long)
-
-pub grew_refl : (d : Domains) (q : Queue Returning) → Grew d d q q
-grew_refl d q =
-    record { clock = refl; why = refl; shown = λ i x h. h; more = omega arith; even = refl; kept = kept_refl q }
 
 pub grew_trans : (d d' d'' : Domains) (q q' q'' : Queue Returning) → Grew d d' q q' → Grew d' d'' q' q'' → Grew d d'' q q''
 grew_trans d d' d'' q q' q'' a b =
