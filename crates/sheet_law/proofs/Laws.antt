@@ -10,20 +10,20 @@ use Rattle.sheet_format.specs.declared.found.Variable.{Variable}
 use Rattle.sheet_format.specs.declared.found.Summary.{Summary}
 use Rattle.sheet_format.specs.declared.faults.Cause.TheVariants.{TooLong}
 use Rattle.sheet_format.specs.declared.faults.SheetFault.{SheetFault}
-use Rattle.sheet_format.specs.Numbers.{two, eight, number2}
+use Rattle.sheet_format.specs.Numbers.{eight, number2}
 use Rattle.sheet_format.specs.Value.{Constraint, sum, table, Move, add, retract, Sheet, size_at, ValidVariable, ValidConstraint, ValidMove}
 use Rattle.sheet_format.specs.Encoding.{Raw, framed, heading_record, variable_record, constraint_record, move_record, end_record, records_of, encode, Valid}
 use Rattle.sheet_format.specs.Decoding.{first_record, split, rows_in, as_variable, as_constraint, as_move, gathered, sheet_of, decode}
 use Rattle.sheet_format.specs.Verdict.{Tally, nothing_yet, summary, Verdict, format_fault, walked, verdict}
 use Rattle.sheet_format.specs.Law.{summary_of, Encodes, Law}
-use Rattle.sheet_law.proofs.NumberLaws.{two_back}
-use Rattle.sheet_law.proofs.Framing.{Bytes, Short, framed-length, framed_first}
+use Rattle.sheet_law.proofs.NumberLaws.{two_back, Bytes}
+use Rattle.sheet_law.proofs.Framing.{Short, framed-length, framed_first}
 use Rattle.sheet_law.proofs.Walks.{Runs, accepted, Accepted, runs}
 use Rattle.sheet_law.proofs.Rows.{rows_there}
 use Rattle.sheet_law.proofs.Items.{sum_there}
 use Rattle.sheet_law.proofs.Backward.{AllBytes, tally, Whole, Tail, tail_back}
 use Rattle.sheet_law.proofs.Variables.{Front, front_back, Headed, headed_back}
-use Rattle.sheet_law.proofs.Forward.{size_low, last_tally, sheet_runs}
+use Rattle.sheet_law.proofs.Forward.{size_low, variable_again, last_tally, sheet_runs}
 
 -- framed records, split again
 pub split_back : (rs : List Raw) (most : ℕ) → length rs ≤ most → AllByRecursion Short rs → split most (flat_map framed rs) ≡ rs
@@ -93,12 +93,7 @@ gathered_none f g [] h = refl
 gathered_none f g (x ∷ xs) h = ap (λ o. option_to_list o ++ gathered f (map g xs)) (h x) ∙ gathered_none f g xs h
 
 variable_back : (n : ℕ) (v : Variable) → n ≤ 32 → ValidVariable n v → as_variable (variable_record v) ≡ Some v
-variable_back n v small valid =
-    let low : v.house < n = valid.house_low in
-    let few : v.size ≤ 64 = valid.few_values in
-    let size : number2 (variable_record v).body 0 ≡ v.size = two_back v.size (two v.house) (omega arith) in
-    let house : number2 (variable_record v).body 2 ≡ v.house = two_back v.house [] (omega arith) in
-    ap (λ x. Some (record { size = x; house = number2 (variable_record v).body 2 })) size ∙ ap (λ x. Some (record { size = v.size; house = x })) house
+variable_back n v small valid = ap Some (variable_again n v small valid)
 
 pub constraint_back : (vs : List Variable) (c : Constraint) → AllByRecursion (ValidVariable (length vs)) vs → ValidConstraint vs c → as_constraint (constraint_record c) ≡ Some c
 constraint_back vs (sum a b m k lo hi) valid v = ap Some (sum_there (length vs) a b m k lo hi v).0
