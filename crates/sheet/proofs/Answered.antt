@@ -6,7 +6,7 @@ use Rattle.std.specs.declared.ops.ControlFlow.TheVariants.{Continue, Break}
 use Rattle.sheet_format.specs.declared.faults.RecordFault.{RecordFault}
 use Rattle.sheet_format.specs.declared.found.Summary.{Summary}
 use Rattle.sheet_format.specs.Faults.{counted_result}
-use Rattle.sheet_format.specs.Reading.{Shown, Reading, taken, reading}
+use Rattle.sheet_format.specs.Reading.{Shown, taken, reading}
 use Rattle.sheet_format.specs.Verdict.{Tally, goes, step, after_step, after_reading, walked}
 use Rattle.sheet_law.proofs.Framing.{Took, took}
 use Rattle.sheet.specs.declared.checking.Walk.{Walk}
@@ -14,19 +14,24 @@ use Rattle.sheet.specs.declared.reader.Record.{Record}
 use Rattle.sheet.specs.Outcome.{shown_by, Answers}
 use Rattle.sheet.specs.Advance.{Onward, after_record, Advanced, OneFurther}
 
--- the reader took a record
-pub read_ok : (place records : ℕ) (q : Result (Record × Bor (List ℕ)) RecordFault) (t : Record) (rest : Bor (List ℕ)) (r : Reading)
-    → Answers place q r → Ok (t, rest) ≡ counted_result q records → r ≡ taken (shown_by t) rest.now
-read_ok place records (Ok pair) t rest r a e =
-    let p : (t, rest) ≡ pair = cc in a ∙ subst (λ x. taken (shown_by x.0) x.1.now ≡ taken (shown_by t) rest.now) p refl
-read_ok place records (Err fault) t rest r a e = absurd (let z : ◌≡◌ {A = ℕ} 0 1 = cc in omega arith)
+-- the reader took a record off the bytes of a walk
+pub record TookOff (w : Walk) (t : Record) (rest : List ℕ) : Type 0 where
+  pub reads : reading w.input.now w.place ≡ taken (shown_by t) rest
+  pub shorter : length rest + 4 ≤ length w.input.now
 
--- what is left is shorter
-pub left_shorter : (xs : List ℕ) (place : ℕ) (s : Shown) (rest : List ℕ) → reading xs place ≡ taken s rest → length rest + 4 ≤ length xs
+left_shorter : (xs : List ℕ) (place : ℕ) (s : Shown) (rest : List ℕ) → reading xs place ≡ taken s rest → length rest + 4 ≤ length xs
 left_shorter xs place s rest e =
     let t : Took xs place s rest = took xs place s rest e in
     let k : length rest ≡ length xs - t.long = ap length t.leaves ∙ length-drop t.long xs in
     omega (arith, t.at_least, t.at_most)
+
+pub took_off : (w : Walk) (q : Result (Record × Bor (List ℕ)) RecordFault) (t : Record) (rest : Bor (List ℕ))
+    → Answers w.place q (reading w.input.now w.place) → Ok (t, rest) ≡ counted_result q w.records → TookOff w t rest.now
+took_off w (Ok pair) t rest a e =
+    let p : (t, rest) ≡ pair = cc in
+    let r : reading w.input.now w.place ≡ taken (shown_by t) rest.now = a ∙ subst (λ x. taken (shown_by x.0) x.1.now ≡ taken (shown_by t) rest.now) p refl in
+    record { reads = r; shorter = left_shorter w.input.now w.place (shown_by t) rest.now r }
+took_off w (Err fault) t rest a e = absurd (let z : ◌≡◌ {A = ℕ} 0 1 = cc in omega arith)
 
 -- the verdict goes on after a record that was admitted
 pub goes_on : (go : Onward) (w : Walk) (h : Tally) (s : Shown) (rest : List ℕ)

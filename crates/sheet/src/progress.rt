@@ -83,6 +83,7 @@ impl Progress {
     }
 
     // the house number is below n and new
+    #[tactic(auto, using(crate::proofs::Used::used_any))]
     fn house_good(&self, house: u16) -> bool
         ensures { result ≡ house_good self.now house }
     {
@@ -176,6 +177,7 @@ impl Progress {
     }
 
     // a table constraint with both its ends
+    #[tactic(auto, using(crate::proofs::Chunks::rows_all))]
     fn table(self, left: u8, right: u8, rows: &[u8], after: u32) -> Result<Progress, Cause>
         ensures { step_of result ≡ constraint_step self (table_step self left right rows.now after) }
     {

@@ -1,10 +1,10 @@
 -- The law of sheets.
-use Rattle.std.proofs.Common.{◌≡◌, ℕ, zero, suc, ◌+◌, ◌-◌, ◌*◌, ◌/◌, ◌<◌, ◌≤◌, Bool, true, false, cond, ltb, List, [], ◌∷◌, ◌++◌, map, length, take, drop, Some, None, Ok, Err, Option, sym, refl, ap, ◌∙◌, subst, zero-add, arith}
+use Rattle.std.proofs.Common.{◌≡◌, ℕ, zero, suc, ◌+◌, ◌-◌, ◌*◌, ◌/◌, ◌<◌, ◌≤◌, Bool, true, false, cond, ltb, List, [], ◌∷◌, ◌++◌, map, length, get_or, take, drop, Some, None, Ok, Err, Option, sym, refl, ap, ◌∙◌, subst, zero-add, arith}
 use Rattle.std.specs.Option.{option_to_list}
 use Rattle.std.specs.List.{flat_map, AllByRecursion}
 use Rattle.std.proofs.lemmas.List.{append_assoc, append-nil}
 use Rattle.std.proofs.lemmas.Nat.{div-mul-add}
-use Rattle.std.proofs.ByRecursion.{All-append, All-map, All-weaker}
+use Rattle.std.proofs.ByRecursion.{All-from_get_or, All-append, All-map, All-weaker}
 use Rattle.std.proofs.lemmas.Bool.{ltb-true, ltb-false}
 use Rattle.sheet_format.specs.declared.found.Variable.{Variable}
 use Rattle.sheet_format.specs.declared.found.Summary.{Summary}
@@ -242,7 +242,7 @@ refused_law xs f e s v same =
     clash : (z : Summary) (g : SheetFault) → ◌≡◌ {A = Verdict} (Ok z) (Err g) → ⊥
     clash z g h = let y : ◌≡◌ {A = ℕ} 0 1 = cc in omega arith
 
-pub law : (xs : List ℕ) → Bytes xs → Law xs (verdict xs)
+law : (xs : List ℕ) → Bytes xs → Law xs (verdict xs)
 law xs b = sized (ltb 65535 (length xs)) refl
   where
     by_walk : (r : Verdict) → length xs ≤ 65535 → walked (suc (length xs)) xs 0 0 nothing_yet ≡ r → Law xs r
@@ -252,3 +252,7 @@ law xs b = sized (ltb 65535 (length xs)) refl
     sized : (t : Bool) → ltb 65535 (length xs) ≡ t → Law xs (cond t (format_fault TooLong 65535 0) (walked (suc (length xs)) xs 0 0 nothing_yet))
     sized true e = λ s v same. let l : 65535 < length xs = ltb-true 65535 (length xs) e in let k = v.short in let m = ap length same in omega arith
     sized false e = by_walk (walked (suc (length xs)) xs 0 0 nothing_yet) (ltb-false 65535 (length xs) e) refl
+
+-- the same where each byte is known to be below 256 by its place
+pub law_at : (xs : List ℕ) → ((k : ℕ) → get_or xs k 0 < 256) → Law xs (verdict xs)
+law_at xs low = law xs (All-from_get_or (λ b. b < 256) xs 0 (λ i _. low i))
