@@ -1,3 +1,4 @@
-pub mod Terms
-pub mod TableRows
 pub mod ReadBack
+pub mod Through
+pub mod TableRows
+pub mod Terms
