@@ -3,7 +3,6 @@ use Rattle.std.proofs.Common.{◌≡◌, ℕ, zero, suc, ◌+◌, ◌-◌, ◌*�
 use Rattle.std.specs.Option.{option_to_list}
 use Rattle.std.specs.List.{flat_map, AllByRecursion}
 use Rattle.std.proofs.lemmas.List.{append_assoc, append-nil}
-use Rattle.std.proofs.lemmas.Nat.{div-mul-add}
 use Rattle.std.proofs.ByRecursion.{All-from_get_or, All-append, All-map, All-weaker}
 use Rattle.std.proofs.lemmas.Bool.{ltb-true, ltb-false}
 use Rattle.sheet_format.specs.declared.found.Variable.{Variable}
@@ -100,7 +99,7 @@ constraint_back vs (sum a b m k lo hi) valid v = ap Some (sum_there (length vs) 
 constraint_back vs (table a b rows) valid v =
     let there = rows_there (size_at vs b) rows [] (size_low (length vs) vs b valid v.ends.b_low) v.low_bits in
     let long : length (flat_map eight rows) ≡ 8 * length rows = there.2 in
-    let count : length (flat_map eight rows) / 8 ≡ length rows = (let m : length (flat_map eight rows) ≡ length rows * 8 + 0 = omega arith in ap (λ x. x / 8) m ∙ div-mul-add (length rows) 8 0 (omega arith)) in
+    let count : length (flat_map eight rows) / 8 ≡ length rows = omega arith in
     let same : rows_in (length rows) (flat_map eight rows) ≡ rows = subst (λ xs. rows_in (length rows) xs ≡ rows) (append-nil (flat_map eight rows)) there.1 in
     ap (λ x. Some (table a b (rows_in x (flat_map eight rows)))) count ∙ ap (λ x. Some (table a b x)) same
 
