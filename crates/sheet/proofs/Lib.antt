@@ -1,5 +1,5 @@
-pub mod Answered
-pub mod Chunks
+mod Answered
+mod Chunks
 pub mod Encoded
-pub mod Unknown
-pub mod Used
+mod Unknown
+mod Used

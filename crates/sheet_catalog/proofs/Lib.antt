@@ -1,4 +1,4 @@
-pub mod ReadBack
-pub mod Through
-pub mod TableRows
-pub mod Terms
+mod ReadBack
+mod TableRows
+mod Terms
+mod Through
