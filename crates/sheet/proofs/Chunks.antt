@@ -30,10 +30,10 @@ rows_same size (suc count) xs =
     ∙ ap (λ b. ltb (number8 xs 0) (2 ^ size) && b) (rows_same size count (drop 8 xs))
 
 pub rows_all : (size count : ℕ) (xs : List ℕ) → length xs ≡ 8 * count
-    → rows_good count size xs ≡ list_all (λ row. ltb (from_le_bytes w64 row) (2 ^ size)) (first_chunks 8 (length xs / 8) xs)
+    → list_all (λ row. ltb (from_le_bytes w64 row) (2 ^ size)) (first_chunks 8 (length xs / 8) xs) ≡ rows_good count size xs
 rows_all size count xs e =
-    let many : count ≡ length xs / 8 = omega arith in
-    sym (rows_same size count xs) ∙ ap (λ n. list_all (λ row. ltb (from_le_bytes w64 row) (2 ^ size)) (first_chunks 8 n xs)) many
+    let many : length xs / 8 ≡ count = omega arith in
+    ap (λ n. list_all (λ row. ltb (from_le_bytes w64 row) (2 ^ size)) (first_chunks 8 n xs)) many ∙ rows_same size count xs
 
 -- a shift that leaves nothing
 pub fits_shift : (row size : ℕ) → eqb (row / 2 ^ size) 0 ≡ ltb row (2 ^ size)

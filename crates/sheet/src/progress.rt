@@ -177,7 +177,6 @@ impl Progress {
     }
 
     // a table constraint with both its ends
-    #[tactic(auto, using(crate::proofs::Chunks::rows_all))]
     fn table(self, left: u8, right: u8, rows: &[u8], after: u32) -> Result<Progress, Cause>
         ensures { step_of result ≡ constraint_step self (table_step self left right rows.now after) }
     {

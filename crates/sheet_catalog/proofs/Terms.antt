@@ -1,6 +1,18 @@
 -- Two factors of two bytes times values below 64, added.
-use Rattle.std.proofs.Common.{◌≡◌, ℕ, ◌≤◌, ℤ, pos, negsuc, ◌+ℤ◌, ◌*ℤ◌, ◌≤ℤ◌, ap, ◌∙◌, arith, w16, w64, SFits, to_z, of_z}
+use Rattle.std.proofs.Common.{◌≡◌, ℕ, suc, ◌*◌, ◌^◌, ◌<◌, ◌≤◌, ℤ, pos, negsuc, ◌+ℤ◌, ◌*ℤ◌, ◌≤ℤ◌, ap, ◌∙◌, mul-le-mul, arith, w16, w64, SFits, to_z, of_z}
 use Rattle.std.proofs.lemmas.Int.{ints, to_z-of_z}
+
+-- at most 32,768 times at most 63
+few : (n x : ℕ) → n ≤ 32768 → x < 64 → n * x ≤ 2097151
+few n x h k = let j : n * x ≤ 32768 * 63 = mul-le-mul h (let i : x ≤ 63 = omega arith in i) in omega arith
+
+pub low_product : (m : ℤ) (x : ℕ) → SFits w16 m → x < 64 → negsuc 2097151 ≤ℤ (m *ℤ pos x)
+low_product (pos n) x f h = grind (arith, ints)
+low_product (negsuc n) x f h = let i : n < 2 ^ 15 = f.sfits in let j : suc n * x ≤ 2097151 = few (suc n) x (omega arith) h in grind (arith, ints)
+
+pub high_product : (m : ℤ) (x : ℕ) → SFits w16 m → x < 64 → (m *ℤ pos x) ≤ℤ pos 2097151
+high_product (pos n) x f h = let i : n < 2 ^ 15 = f.sfits in let j : n * x ≤ 2097151 = few n x (omega arith) h in grind (arith, ints)
+high_product (negsuc n) x f h = grind (arith, ints)
 
 wide_fits : (z : ℤ) → negsuc 4194303 ≤ℤ z → z ≤ℤ pos 4194302 → SFits w64 z
 wide_fits (pos n) l h = record { sfits = (let j : n ≤ 4194302 = grind (arith, ints) in omega arith) }

@@ -48,7 +48,7 @@ fn move_at(sheet: &[u8], k: usize) -> Move
 }
 
 // The moves of a sheet, in their order; nothing of a refused sheet but its fault.
-#[tactic(auto, using(crate::proofs::Places::moves_fit, crate::proofs::Places::moves_more))]
+#[tactic(auto, using(crate::proofs::Places::moves_more))]
 pub fn moves_of(heap: Global, sheet: &[u8]) -> Result<Vec<Move>, MovesFault>
     ensures { MatchResult result (λ v. map said v.items ≡ (decode sheet.now).moves) (λ f. Turned (verdict sheet.now) f) }
 {
