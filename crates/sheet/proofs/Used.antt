@@ -4,6 +4,6 @@ use Rattle.std.specs.List.{list_any}
 use Rattle.sheet_format.specs.declared.found.Variable.{Variable}
 use Rattle.sheet_format.specs.Verdict.{used}
 
-pub used_any : (vs : List Variable) (h : ℕ) → list_any (λ v. eqb v.house h) vs ≡ used vs h
+pub used_any : (vs : List Variable) (h : ℕ) → used vs h ≡ list_any (λ v. eqb v.house h) vs
 used_any [] h = refl
 used_any (v ∷ vs) h = ap (λ b. eqb v.house h || b) (used_any vs h)

@@ -15,6 +15,7 @@ pub(crate) fn house_used(variables: &[Variable], house: u16) -> bool
 }
 
 // a row has no bit at or above the size
+#[tactic(auto, using(crate::proofs::Chunks::fits_wide, crate::proofs::Chunks::fits_shift))]
 fn row_fits(row: u64, size: u16) -> bool
     ensures { result ≡ nat_lt row (2 ^ size) }
 {

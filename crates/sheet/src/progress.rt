@@ -13,8 +13,8 @@ use std::marker::Model;
 use std::ops::ControlFlow;
 
 // What the records so far have said: how many variables the heading gave (none before it), those that came, how many constraints and moves,
-// and the place after the last record that was no move. `n` is a number and no Option, as in the definition: with 0 nothing but a heading is in turn,
-// by the comparisons that are made anyway.
+// and the place after the last record that was no move. `n` is a number and no Option, as in the definition: of those that read it only the heading
+// asks whether it is there, and for the others 0 is the number that they want.
 #[derive(Drop)]
 pub struct Progress {
     n: usize,
@@ -83,6 +83,7 @@ impl Progress {
     }
 
     // the house number is below n and new
+    #[tactic(auto, using(crate::proofs::Used::used_any))]
     fn house_good(&self, house: u16) -> bool
         ensures { result ≡ house_good self.now house }
     {
@@ -241,8 +242,7 @@ impl Progress {
                 self.constraint_turn()?;
                 return Err(Cause::WrongLength);
             }
-            Record::Add(body) => self.a_move(body)?,
-            Record::Retract(body) => self.a_move(body)?,
+            Record::Add(body) | Record::Retract(body) => self.a_move(body)?,
             Record::End(body) => return Ok(ControlFlow::Break(self.ending(body)?)),
         };
         Ok(ControlFlow::Continue(next))

@@ -22,7 +22,7 @@ fn bytes_of(heap: Global, word: &str) -> anyhow::Result<Vec<u8>> {
     let (pairs, _) = digits.as_chunks::<2>();
     let bytes = pairs
         .iter()
-        .map(|[high, low]| (*high & 15) * 16 | (*low & 15))
+        .map(|[high, low]| *high << 4 | *low)
         .collect(heap)?;
     Ok(bytes)
 }

@@ -1,3 +1,4 @@
-pub mod Terms
-pub mod TableRows
-pub mod ReadBack
+mod ReadBack
+mod TableRows
+mod Terms
+mod Through

@@ -1,8 +1,8 @@
 -- What is read where a constraint begins is that constraint.
 use Rattle.std.proofs.Common.{◌≡◌, ℕ, ◌<◌, Bool, true, false, cond, ltb, List, length, get_or, drop, Some, None, sym, refl, ap, ◌∙◌, subst, arith}
 use Rattle.std.specs.List.{AllByRecursion}
-use Rattle.std.proofs.lemmas.Bool.{le-ltb, lt-ltb, cond-false, cond-true}
-use Rattle.catalog.specs.Meaning.{ends_of}
+use Rattle.std.proofs.lemmas.Bool.{le-ltb, cond-false, cond-true}
+use Rattle.catalog.specs.Meaning.{ends_of, GoodEnds}
 use Rattle.sheet_format.specs.declared.found.Variable.{Variable}
 use Rattle.sheet_format.specs.Value.{Constraint, sum, table, Sheet, ValidVariable, ValidConstraint}
 use Rattle.sheet_format.specs.Encoding.{Raw, framed, constraint_record, Valid}
@@ -11,9 +11,10 @@ use Rattle.sheet_law.proofs.Framing.{Short, framed_read}
 use Rattle.sheet_law.proofs.Laws.{constraint_back}
 use Rattle.sheet_meaning.specs.Meant.{left_end, right_end, constraint_at, meaning_of, sheet_in}
 use Rattle.sheet_meaning.specs.Begun.{BeginsAt}
-use Rattle.sheet_meaning.proofs.Sheets.{valid_with_constraint, constraint_valid}
+use Rattle.sheet_meaning.proofs.Sheets.{valid_with_constraint, constraint_valid, bytes_lawful, good_ends}
 use Rattle.sheet_meaning.proofs.Read.{begun_rest, constraint_short}
 use Rattle.sheet_catalog.specs.Viewed.{meant_by, meant, constraint_shown, constraint_read}
+use Rattle.sheet_catalog.specs.declared.SheetCatalog.{SheetCatalog}
 use Rattle.sheet_catalog.specs.declared.view.Constraint as view
 use Rattle.sheet_catalog.specs.declared.view.Pairs.{Pairs}
 use Rattle.sheet_catalog.specs.declared.view.Pairs.TheVariants.{Sum, Table}
@@ -27,7 +28,7 @@ shows vs (table a b rows) place rest valid v =
     ap (λ t. constraint_shown t) (cond-false (ltb (length body) 2) (shows_short_table body) _ (le-ltb (length body) 2 (omega arith)))
     ∙ constraint_back vs (table a b rows) valid v
 
-pub read_there : (s : Sheet) (p : ℕ) (bytes : List ℕ) (start place : ℕ) → Valid s → p < length s.constraints → BeginsAt bytes start (constraint_record (constraint_at s p))
+read_there : (s : Sheet) (p : ℕ) (bytes : List ℕ) (start place : ℕ) → Valid s → p < length s.constraints → BeginsAt bytes start (constraint_record (constraint_at s p))
     → constraint_read (reading (drop start bytes) place) ≡ Some (constraint_at s p)
 read_there s p bytes start place v h e =
     let c : Constraint = constraint_at s p in
@@ -39,14 +40,13 @@ read_there s p bytes start place v h e =
     ∙ ap constraint_read (framed_read r rest place short)
     ∙ shows s.variables c place rest v.variables_valid valid
 
--- the same of the sheet in the bytes, as the look-up of a constraint has it
-pub found_there : (bytes : List ℕ) (count p start : ℕ) → ((k : ℕ) → get_or bytes k 0 < 256) → count ≡ length (sheet_in bytes).constraints → p < count
-    → BeginsAt bytes start (constraint_record (constraint_at (sheet_in bytes) p))
-    → constraint_read (reading (drop start bytes) start) ≡ cond (ltb p count) (Some (constraint_at (sheet_in bytes) p)) None
-found_there bytes count p start low e h b =
-    let k : p < length (sheet_in bytes).constraints = subst (λ n. p < n) e h in
-    read_there (sheet_in bytes) p bytes start start (valid_with_constraint bytes p low k) k b
-    ∙ sym (cond-true (ltb p count) (Some (constraint_at (sheet_in bytes) p)) None (lt-ltb p count h))
+-- the same where a catalog has it
+pub found_there : (s : SheetCatalog) (p : ℕ) → p < s.count
+    → constraint_read (reading (drop (get_or s.starts p 0) s.bytes.now) (get_or s.starts p 0)) ≡ Some (constraint_at (sheet_in s.bytes.now) p)
+found_there s p h =
+    let start : ℕ = get_or s.starts p 0 in
+    let k : p < length (sheet_in s.bytes.now).constraints = subst (λ n. p < n) s.counted h in
+    read_there (sheet_in s.bytes.now) p s.bytes.now start start (valid_with_constraint s.bytes.now p s.low k) k (s.begun p h)
 
 left_meant : (a b : ℕ) (pairs : Pairs) → left_end (meant_by a b pairs) ≡ a
 left_meant a b (Sum f) = refl
@@ -57,7 +57,7 @@ right_meant a b (Sum f) = refl
 right_meant a b (Table rows) = refl
 
 -- the ends that the look-up of a constraint gives are those of the meaning
-pub ends_there : (s : Sheet) (count p : ℕ) (k : view.Constraint) → count ≡ length s.constraints
+ends_there : (s : Sheet) (count p : ℕ) (k : view.Constraint) → count ≡ length s.constraints
     → Some (meant k) ≡ cond (ltb p count) (Some (constraint_at s p)) None → Some (k.left, k.right) ≡ ends_of (meaning_of s) p
 ends_there s count p k e q = by (ltb p count) refl q
   where
@@ -71,3 +71,8 @@ ends_there s count p k e q = by (ltb p count) refl q
         ∙ ap (λ b. Some (left_end (constraint_at s p), b)) r
         ∙ sym (cond-true (ltb p (length s.constraints)) (Some (left_end (constraint_at s p), right_end (constraint_at s p))) None there)
     by false t q = absurd (let z : ◌≡◌ {A = ℕ} 0 1 = cc in omega arith)
+
+pub good_there : (s : SheetCatalog) (p : ℕ) (k : view.Constraint) → Some (meant k) ≡ cond (ltb p s.count) (Some (constraint_at (sheet_in s.bytes.now) p)) None
+    → (k.left < 32) × (k.right < 32) × (k.left ≡ k.right → ⊥)
+good_there s p k e =
+    subst GoodEnds (sym (ends_there (sheet_in s.bytes.now) s.count p k s.counted e)) (good_ends (meaning_of (sheet_in s.bytes.now)) p (bytes_lawful s.bytes.now s.low))

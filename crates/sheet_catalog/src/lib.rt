@@ -13,8 +13,8 @@ mod starts;
 mod view;
 
 // The constraints of the sheet that the bytes hold, in the sheet's order; none where the check refuses the bytes. What a question needs is
-// read from the bytes at the place where its constraint begins, which is known from the start. The places are an array and a count, since
-// an ArrayVec is not Copy.
+// read from the bytes at the place where its constraint begins, which is known from the start. The places are an array and a count: the public
+// type was `Copy` and must stay so, as an ArrayVec is not.
 #[derive(Clone, Copy)]
 pub struct SheetCatalog<'a> {
     bytes: &'a [u8],
@@ -36,6 +36,7 @@ impl<'a> Catalog for SheetCatalog<'a> {
         self.count
     }
 
+    #[tactic(auto, using(crate::proofs::ReadBack::good_there))]
     fn ends(&self, p: usize) -> Option<(usize, usize)> {
         let constraint = self.constraint(p)?;
         Some((constraint.left as usize, constraint.right as usize))

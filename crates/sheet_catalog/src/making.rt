@@ -29,6 +29,7 @@ impl<'a> SheetCatalog<'a> {
     }
 
     // The constraint p, where there is one.
+    #[tactic(auto, using(crate::proofs::ReadBack::found_there))]
     pub(crate) fn constraint(&self, p: usize) -> Option<Constraint<'a>>
         ensures { option_map meant result ≡ (if nat_lt p self.now.count then Some (constraint_at (sheet_in self.now.bytes.now) p) else None) }
     {

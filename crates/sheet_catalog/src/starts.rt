@@ -1,8 +1,8 @@
 // Where the constraints of an accepted sheet begin.
 ghost use Rattle.std.specs.Prelude.{◌≡◌, ℕ, ◌<◌, ◌≤◌, length, drop};
 ghost use Rattle.std.specs.Option.{option_map};
-ghost use Rattle.sheet_format.specs.Decoding.{decode};
 ghost use Rattle.sheet_format.specs.Reading.{reading};
+ghost use Rattle.sheet_meaning.specs.Meant.{sheet_in};
 ghost use Rattle.sheet_meaning.specs.Begun.{Begun};
 ghost use Rattle.sheet_catalog.specs.Viewed.{meant, constraint_read};
 
@@ -10,16 +10,15 @@ use crate::view::{Constraint, constraint_in};
 use sheet::{Accepted, read_record};
 use sheet_format::word;
 
-// Where each constraint of the sheet begins, one after the other. By index: entry p belongs to constraint p, and a zip with the entries is no
-// plainer.
+// Where each constraint of the sheet begins, one after the other.
 pub(crate) fn starts_of(sheet: &Accepted<'_>) -> [u32; 96]
     ensures wide { length result ≡ 96 }
-    ensures begun { (p : ℕ) → p < sheet.now.found.constraints → Begun sheet.now.bytes.now (decode sheet.now.bytes.now) result p }
+    ensures begun { (p : ℕ) → p < sheet.now.found.constraints → Begun sheet.now.bytes.now (sheet_in sheet.now.bytes.now) result p }
 {
     let mut starts = [0; 96];
     let mut place = sheet.found.constraints_at;
-    for p in 0..sheet.found.constraints as usize {
-        starts[p] = place;
+    for start in &mut starts[..sheet.found.constraints as usize] {
+        *start = place;
         place += word(sheet.bytes, place as usize) as u32;
     }
     starts

@@ -1,9 +1,6 @@
 // One constraint of a sheet, seen through the record that holds it.
-ghost use Rattle.std.specs.Prelude.{◌≡◌, ◌+◌, ◌*◌, ◌/◌, ◌<◌, ◌&&◌, nat_lt, length, pos, negsuc, ◌*ℤ◌, ◌≤ℤ◌, if◌then◌else◌, Some, None};
-ghost use Rattle.std.proofs.Common.{to_z};
-ghost use Rattle.std.specs.Int.{w16, w32};
+ghost use Rattle.std.specs.Prelude.{◌≡◌, ◌+◌, ◌*◌, ◌/◌, ◌<◌, ◌&&◌, nat_lt, length, pos, negsuc, ◌+ℤ◌, ◌*ℤ◌, ◌≤ℤ◌};
 ghost use Rattle.std.specs.Option.{option_map};
-ghost use Rattle.sheet_format.specs.Numbers.{number8};
 ghost use Rattle.sheet_format.specs.Decoding.{rows_in};
 ghost use Rattle.sheet_format.specs.Verdict.{between_z};
 ghost use Rattle.sheet_meaning.specs.Meant.{sum_allows, table_allows, pair_allowed};
@@ -90,28 +87,32 @@ fn within(lo: i32, hi: i32, total: i64) -> bool
 }
 
 impl Formula {
-    // Does the formula hold for these values? With values below 64 nothing wraps.
+    // m * x + k * y: with values below 64 nothing wraps.
+    #[tactic(auto, using(crate::proofs::Terms::total_of))]
+    fn total(self, x: usize, y: usize) -> i64
+        requires left { x < 64 }
+        requires right { y < 64 }
+        ensures { result ≡ self.m *ℤ pos x +ℤ self.k *ℤ pos y }
+    {
+        term(self.m, x) + term(self.k, y)
+    }
+
+    // Does the formula hold for these values?
     fn holds(self, x: usize, y: usize) -> bool
         requires left { x < 64 }
         requires right { y < 64 }
         ensures { result ≡ sum_allows self.m self.k self.lo self.hi x y }
     {
-        within(self.lo, self.hi, term(self.m, x) + term(self.k, y))
+        within(self.lo, self.hi, self.total(x, y))
     }
 }
 
-// row x of a table, if it has one
-fn row_at(rows: &[u8], x: usize) -> Option<u64>
-    ensures { result ≡ (if nat_lt x (length rows.now / 8) then Some (number8 rows.now (8 * x)) else None) }
-{
-    (x < rows.len() / 8).then(|| row(rows, 8 * x))
-}
-
 // Is bit y of row x set? No past the rows.
+#[tactic(auto, using(crate::proofs::TableRows::row_allows, crate::proofs::TableRows::row_refuses))]
 fn row_has(rows: &[u8], x: usize, y: usize) -> bool
     ensures { result ≡ table_allows (rows_in (length rows.now / 8) rows.now) x y }
 {
-    row_at(rows, x).is_some_and(|row| bits::has(row, y))
+    x < rows.len() / 8 && bits::has(row(rows, 8 * x), y)
 }
 
 impl<'a> Constraint<'a> {

@@ -10,7 +10,8 @@ use Rattle.sheet_format.specs.Encoding.{Raw, framed, constraint_record, move_rec
 use Rattle.sheet_format.specs.Decoding.{sum_in, rows_in}
 use Rattle.sheet_format.specs.Reading.{Shown, shows_heading, shows_variable, shows_sum, shows_table, shows_short_table, shows_add, shows_retract, shows_end}
 use Rattle.sheet_format.specs.Verdict.{Tally, step, goes, complete, constraints_due, ends_good, with_constraint, with_move}
-use Rattle.sheet_law.proofs.Framing.{Bytes, framed-length}
+use Rattle.sheet_law.proofs.NumberLaws.{Bytes}
+use Rattle.sheet_law.proofs.Framing.{framed-length}
 use Rattle.sheet_law.proofs.Held.{GoesHeld, goes_held, EndHeld, end_held}
 use Rattle.sheet_law.proofs.Walks.{past, Ended, Runs}
 use Rattle.sheet_law.proofs.Shows.{KindIs, kind_is}
@@ -63,13 +64,8 @@ module _ (g k : Tally) (place : ℕ) (r : Raw) (rs : List Raw) where
       }
 
   -- a move before the rest
-  tail_move : (m : Move) → r ≡ move_record m → ValidMove m → (h : Tally) → h ≡ with_move g → (t : Tail h (past place r) rs k) → Tail g place (r ∷ rs) k
-  tail_move m e valid h is t =
-      let hm : h.moves ≡ g.moves + 1 = ap (λ x. x.moves) is in
-      let hc : h.constraints ≡ g.constraints = ap (λ x. x.constraints) is in
-      let hn : h.n ≡ g.n = ap (λ x. x.n) is in
-      let hv : h.variables ≡ g.variables = ap (λ x. x.variables) is in
-      let hr : h.reached ≡ g.reached = ap (λ x. x.reached) is in
+  tail_move : (m : Move) → r ≡ move_record m → ValidMove m → Tail (with_move g) (past place r) rs k → Tail g place (r ∷ rs) k
+  tail_move m e valid t =
       let l = t.late (λ z. omega arith) in
       let none : t.constraints ≡ [] = l.0 in
       let cs : length t.constraints ≡ 0 = ap length none in
@@ -79,25 +75,20 @@ module _ (g k : Tally) (place : ℕ) (r : Raw) (rs : List Raw) where
         same =
             ap (λ q. q ∷ rs) e
             ∙ ap (λ qs. move_record m ∷ qs) (t.same ∙ ap (λ qs. map constraint_record qs ++ (map move_record t.moves ++ (end_record ∷ []))) none);
-        late = λ _. (refl, l.1 ∙ hr);
+        late = λ _. (refl, l.1);
         constraints_valid = tt;
         moves_valid = (valid, t.moves_valid);
         few = (let f = t.few in omega arith);
-        n_is = t.n_is ∙ hn;
-        variables_are = t.variables_are ∙ hv;
+        n_is = t.n_is;
+        variables_are = t.variables_are;
         constraints_are = (let f = t.constraints_are in omega arith);
         moves_are = (let f = t.moves_are in omega arith);
         reached_is = λ z p. (let f = l.1 in omega arith);
       }
 
   -- a constraint before the rest
-  tail_constraint : (c : Constraint) → r ≡ constraint_record c → ValidConstraint g.variables c → g.moves ≡ 0 → (h : Tally) → h ≡ with_constraint g (past place r) → (t : Tail h (past place r) rs k) → Tail g place (r ∷ rs) k
-  tail_constraint c e valid early h is t =
-      let hm : h.moves ≡ g.moves = ap (λ x. x.moves) is in
-      let hc : h.constraints ≡ g.constraints + 1 = ap (λ x. x.constraints) is in
-      let hn : h.n ≡ g.n = ap (λ x. x.n) is in
-      let hv : h.variables ≡ g.variables = ap (λ x. x.variables) is in
-      let hr : h.reached ≡ past place r = ap (λ x. x.reached) is in
+  tail_constraint : (c : Constraint) → r ≡ constraint_record c → ValidConstraint g.variables c → g.moves ≡ 0 → Tail (with_constraint g (past place r)) (past place r) rs k → Tail g place (r ∷ rs) k
+  tail_constraint c e valid early t =
       let long : length (flat_map framed (map constraint_record (c ∷ t.constraints))) ≡ 4 + (length r.body + length (flat_map framed (map constraint_record t.constraints))) =
       ap (λ q. length (framed q ++ flat_map framed (map constraint_record t.constraints))) (sym e) ∙ framed-length r (flat_map framed (map constraint_record t.constraints)) in
       record {
@@ -105,14 +96,14 @@ module _ (g k : Tally) (place : ℕ) (r : Raw) (rs : List Raw) where
         moves = t.moves;
         same = ap (λ q. q ∷ rs) e ∙ ap (λ qs. constraint_record c ∷ qs) t.same;
         late = λ z. absurd (z early);
-        constraints_valid = (valid, subst (λ vs. AllByRecursion (ValidConstraint vs) t.constraints) hv t.constraints_valid);
+        constraints_valid = (valid, t.constraints_valid);
         moves_valid = t.moves_valid;
         few = (let f = t.few in omega arith);
-        n_is = t.n_is ∙ hn;
-        variables_are = t.variables_are ∙ hv;
+        n_is = t.n_is;
+        variables_are = t.variables_are;
         constraints_are = (let f = t.constraints_are in omega arith);
-        moves_are = (let f = t.moves_are in omega arith);
-        reached_is = λ z p. (let f = t.reached_is (hm ∙ early) hr in omega arith);
+        moves_are = t.moves_are;
+        reached_is = λ z p. (let f = t.reached_is early refl in omega arith);
       }
 
 -- a state in which all variables are there
@@ -120,6 +111,14 @@ pub record Whole (g : Tally) : Type 0 where
   pub some : 0 < g.n
   pub all : length g.variables ≡ g.n
   pub few : g.constraints ≤ 96
+
+-- they stay there after a constraint and after a move, and so the rest may follow
+after_constraint : (g h k : Tally) (place : ℕ) (rs : List Raw) → Whole g → g.constraints < 96 → h ≡ with_constraint g place → (Whole h → Tail h place rs k) → Tail (with_constraint g place) place rs k
+after_constraint g h k place rs w few e go =
+    subst (λ t. (Whole t → Tail t place rs k)) e go (record { some = w.some; all = w.all; few = omega arith })
+
+after_move : (g h k : Tally) (place : ℕ) (rs : List Raw) → Whole g → h ≡ with_move g → (Whole h → Tail h place rs k) → Tail (with_move g) place rs k
+after_move g h k place rs w e go = subst (λ t. (Whole t → Tail t place rs k)) e go (record { some = w.some; all = w.all; few = w.few })
 
 due_early : (g : Tally) → constraints_due g ≡ true → g.moves ≡ 0
 due_early g e = eqb-true g.moves 0 (and_parts (complete g) (eqb g.moves 0) e).1
@@ -136,33 +135,27 @@ tail_more g k place r rs (shows_variable body) w b kind h q go =
     absurd (let l = ltb-true _ _ q.due in let a = w.all in omega arith)
 tail_more g k place r rs (shows_sum body) w b kind h q go =
     let here : r.body ≡ body = kind.1 in
-    let few = ltb-true _ _ q.0.few in
-    let whole : Whole h = record { some = subst (λ m. 0 < m) (sym (ap (λ t. t.n) q.1.result)) w.some; all = ap (λ t. length t.variables) q.1.result ∙ w.all ∙ sym (ap (λ t. t.n) q.1.result); few = (let c = ap (λ t. t.constraints) q.1.result in omega arith) } in
     let again = sum_again body (subst Bytes here b) (eqb-true (length body) 14 q.1.long) in
     tail_constraint g k place r rs (sum_in body) (same_raw r 3 (constraint_record (sum_in body)).body kind.0 (here ∙ again.0))
     (sum_valid (length g.variables) body (subst (λ m. ends_good m (get_or body 0 0) (get_or body 1 0) ≡ true) (sym w.all) q.1.two_ends) q.1.good again.1 again.2)
-    (due_early g q.0.due) h q.1.result (go whole)
+    (due_early g q.0.due) (after_constraint g h k (past place r) rs w (ltb-true _ _ q.0.few) q.1.result go)
 tail_more g k place r rs (shows_table x y rows at) w b kind h q go =
     let here : r.body ≡ x ∷ (y ∷ rows) = kind.1 in
-    let few = ltb-true _ _ q.0.few in
     let bytes : Bytes rows = (subst Bytes here b).1.1 in
-    let whole : Whole h = record { some = subst (λ m. 0 < m) (sym (ap (λ t. t.n) q.1.result)) w.some; all = ap (λ t. length t.variables) q.1.result ∙ w.all ∙ sym (ap (λ t. t.n) q.1.result); few = (let c = ap (λ t. t.constraints) q.1.result in omega arith) } in
     let count : ℕ = size_at g.variables x in
     let size : ℕ = size_at g.variables y in
     let back : RowsBack count size rows = rows_back count size rows bytes (eqb-true (length rows) (8 * count) q.1.long) q.1.good in
     tail_constraint g k place r rs (table x y (rows_in count rows))
     (same_raw r 4 (x ∷ (y ∷ flat_map eight (rows_in count rows))) kind.0 (here ∙ ap (λ zs. x ∷ (y ∷ zs)) back.same))
     (record { ends = subst (λ m. ValidEnds m x y) (sym w.all) (ends_valid g.n x y q.1.two_ends); a_row_each = back.many; low_bits = back.low })
-    (due_early g q.0.due) h q.1.result (go whole)
+    (due_early g q.0.due) (after_constraint g h k (past place r) rs w (ltb-true _ _ q.0.few) q.1.result go)
 tail_more g k place r rs (shows_short_table body) w b kind h q go = absurd q
 tail_more g k place r rs (shows_add body) w b kind h q go =
     let m = move_is r body b kind.1 q.long in
-    let whole : Whole h = record { some = subst (λ m. 0 < m) (sym (ap (λ t. t.n) q.result)) w.some; all = ap (λ t. length t.variables) q.result ∙ w.all ∙ sym (ap (λ t. t.n) q.result); few = (let c = ap (λ t. t.constraints) q.result in let f = w.few in omega arith) } in
-    tail_move g k place r rs (add (number2 r.body 0)) (same_raw r 5 _ kind.0 m.0) m.1 h q.result (go whole)
+    tail_move g k place r rs (add (number2 r.body 0)) (same_raw r 5 _ kind.0 m.0) m.1 (after_move g h k (past place r) rs w q.result go)
 tail_more g k place r rs (shows_retract body) w b kind h q go =
     let m = move_is r body b kind.1 q.long in
-    let whole : Whole h = record { some = subst (λ m. 0 < m) (sym (ap (λ t. t.n) q.result)) w.some; all = ap (λ t. length t.variables) q.result ∙ w.all ∙ sym (ap (λ t. t.n) q.result); few = (let c = ap (λ t. t.constraints) q.result in let f = w.few in omega arith) } in
-    tail_move g k place r rs (retract (number2 r.body 0)) (same_raw r 6 _ kind.0 m.0) m.1 h q.result (go whole)
+    tail_move g k place r rs (retract (number2 r.body 0)) (same_raw r 6 _ kind.0 m.0) m.1 (after_move g h k (past place r) rs w q.result go)
 tail_more g k place r rs (shows_end body) w b kind h q go = absurd q
 
 tail_ended : (g k : Tally) (place : ℕ) (r : Raw) (rs : List Raw) (s : Shown) → Whole g → KindIs r.kind r.body s → EndHeld g s → rs ≡ [] → k ≡ g → Tail g place (r ∷ rs) k

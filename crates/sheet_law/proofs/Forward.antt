@@ -11,7 +11,7 @@ use Rattle.sheet_format.specs.Numbers.{two, eight, number2}
 use Rattle.sheet_format.specs.Value.{Constraint, sum, table, Move, add, retract, Sheet, no_variable, size_at, ValidVariable, HousesDiffer, ValidSum, ValidTable, ValidConstraint, ValidMove}
 use Rattle.sheet_format.specs.Encoding.{Raw, framed, heading_record, variable_record, constraint_record, move_record, end_record, records_of, Valid}
 use Rattle.sheet_format.specs.Reading.{Shown, shows_heading, shows_variable, shows_sum, shows_table, shows_add, shows_retract, shows_end, shown}
-use Rattle.sheet_format.specs.Verdict.{Tally, nothing_yet, Step, goes, ends, unless, step, complete, constraints_due, between, used, house_good, ends_good, sum_body_good, rows_good, variable_of}
+use Rattle.sheet_format.specs.Verdict.{Tally, nothing_yet, Step, goes, ends, unless, step, complete, constraints_due, between, used, house_good, ends_good, sum_body_good, rows_good, variable_of, with_move}
 use Rattle.sheet_law.proofs.NumberLaws.{two_back}
 use Rattle.sheet_law.proofs.Framing.{framed-length}
 use Rattle.sheet_law.proofs.Walks.{past, Runs}
@@ -33,6 +33,15 @@ complete_is : (n c m p : ℕ) (vs : List Variable) → 1 ≤ n → length vs ≡
 complete_is n c m p vs some all =
     and_from (ltb 0 n) (not (ltb (length vs) n)) (lt-ltb 0 n some) (not_from_false (ltb (length vs) n) (le-ltb (length vs) n (omega arith)))
 
+-- a record that shows something with which a tally goes on
+abbrev Goes : Tally → ℕ → Raw → Tally → Type 0
+Goes g place r h = (s : Shown) × (shown r.kind r.body place ≡ Some s) × (step g s (past place r) ≡ goes h)
+
+-- a move goes on
+move_goes : (q : Move) (g : Tally) (place : ℕ) → complete g ≡ true → Goes g place (move_record q) (with_move g)
+move_goes (add q) g place all = (shows_add (two q), refl, pass (complete g) _ _ _ all refl)
+move_goes (retract q) g place all = (shows_retract (two q), refl, pass (complete g) _ _ _ all refl)
+
 -- moves, then the end
 pub moves_there : (ms : List Move) (n c m p place : ℕ) (vs : List Variable) → 1 ≤ n → length vs ≡ n → AllByRecursion ValidMove ms
     → Runs (tally n vs c m p) place (map move_record ms ++ (end_record ∷ [])) (tally n vs c (m + length ms) p)
@@ -47,16 +56,11 @@ moves_there [] n c m p place vs some all valid =
             same = ap (λ x. tally n vs c x p) same;
           }),
     )
-moves_there (add q ∷ ms) n c m p place vs some all valid =
-    let same : m + 1 + length ms ≡ m + length (add q ∷ ms) = omega arith in
-    before (tally n vs c m p) (tally n vs c (m + 1) p) _ place (move_record (add q)) (shows_add (two q)) (map move_record ms ++ (end_record ∷ [])) refl
-    (pass (complete (tally n vs c m p)) _ _ _ (complete_is n c m p vs some all) refl)
-    (subst (λ x. Runs (tally n vs c (m + 1) p) (past place (move_record (add q))) (map move_record ms ++ (end_record ∷ [])) (tally n vs c x p)) same (moves_there ms n c (m + 1) p (past place (move_record (add q))) vs some all valid.1))
-moves_there (retract q ∷ ms) n c m p place vs some all valid =
-    let same : m + 1 + length ms ≡ m + length (retract q ∷ ms) = omega arith in
-    before (tally n vs c m p) (tally n vs c (m + 1) p) _ place (move_record (retract q)) (shows_retract (two q)) (map move_record ms ++ (end_record ∷ [])) refl
-    (pass (complete (tally n vs c m p)) _ _ _ (complete_is n c m p vs some all) refl)
-    (subst (λ x. Runs (tally n vs c (m + 1) p) (past place (move_record (retract q))) (map move_record ms ++ (end_record ∷ [])) (tally n vs c x p)) same (moves_there ms n c (m + 1) p (past place (move_record (retract q))) vs some all valid.1))
+moves_there (q ∷ ms) n c m p place vs some all valid =
+    let same : m + 1 + length ms ≡ m + length (q ∷ ms) = omega arith in
+    let one = move_goes q (tally n vs c m p) place (complete_is n c m p vs some all) in
+    before (tally n vs c m p) (tally n vs c (m + 1) p) _ place (move_record q) one.0 (map move_record ms ++ (end_record ∷ [])) one.1 one.2
+    (subst (λ x. Runs (tally n vs c (m + 1) p) (past place (move_record q)) (map move_record ms ++ (end_record ∷ [])) (tally n vs c x p)) same (moves_there ms n c (m + 1) p (past place (move_record q)) vs some all valid.1))
 
 -- the place after one record more
 past_all : (place : ℕ) (r : Raw) (rs : List Raw) → past place r + length (flat_map framed rs) ≡ place + length (flat_map framed (r ∷ rs))
@@ -88,6 +92,12 @@ table_goes n c place after a b vs rows some all few valid v at =
 table_shown : (a b place : ℕ) (rows : List ℕ) → shown 4 (a ∷ (b ∷ flat_map eight rows)) place ≡ Some (shows_table a b (flat_map eight rows) (place + 6))
 table_shown a b place rows = ap Some (cond-false (ltb (length (a ∷ (b ∷ flat_map eight rows))) 2) _ _ (le-ltb _ 2 (omega arith)))
 
+constraint_goes : (d : Constraint) (n c place : ℕ) (vs : List Variable) → 1 ≤ n → length vs ≡ n → c < 96 → AllByRecursion (ValidVariable n) vs → ValidConstraint vs d
+    → Goes (tally n vs c 0 place) place (constraint_record d) (tally n vs (c + 1) 0 (past place (constraint_record d)))
+constraint_goes (sum a b m l lo hi) n c place vs some all few valid v = (shows_sum _, refl, sum_goes n c place _ a b vs m l lo hi some all few v)
+constraint_goes (table a b rows) n c place vs some all few valid v =
+    (shows_table a b (flat_map eight rows) (place + 6), table_shown a b place rows, table_goes n c place _ a b vs rows some all few valid v (place + 6))
+
 pub constraints_there : (cs : List Constraint) (n c place : ℕ) (vs : List Variable) (rest : List Raw) (k : Tally) → 1 ≤ n → length vs ≡ n → AllByRecursion (ValidVariable n) vs → AllByRecursion (ValidConstraint vs) cs → c + length cs ≤ 96
     → Runs (tally n vs (c + length cs) 0 (place + length (flat_map framed (map constraint_record cs)))) (place + length (flat_map framed (map constraint_record cs))) rest k
     → Runs (tally n vs c 0 place) place (map constraint_record cs ++ rest) k
@@ -95,24 +105,24 @@ constraints_there [] n c place vs rest k some all valid good few run =
     let e : c + 0 ≡ c = omega arith in
     let f : place + 0 ≡ place = omega arith in
     subst (λ x. Runs (tally n vs x 0 place) place rest k) e (subst (λ p. Runs (tally n vs (c + 0) 0 p) p rest k) f run)
-constraints_there (sum a b m l lo hi ∷ cs) n c place vs rest k some all valid good few run =
-    let r : Raw = constraint_record (sum a b m l lo hi) in
-    let q : ℕ = past place (constraint_record (sum a b m l lo hi)) in
-    let e : c + length (sum a b m l lo hi ∷ cs) ≡ c + 1 + length cs = omega arith in
-    before (tally n vs c 0 place) (tally n vs (c + 1) 0 q) k place r (shows_sum r.body) (map constraint_record cs ++ rest) refl
-    (sum_goes n c place q a b vs m l lo hi some all (omega arith) good.0)
+constraints_there (d ∷ cs) n c place vs rest k some all valid good few run =
+    let r : Raw = constraint_record d in
+    let q : ℕ = past place (constraint_record d) in
+    let e : c + length (d ∷ cs) ≡ c + 1 + length cs = omega arith in
+    let one = constraint_goes d n c place vs some all (omega arith) valid good.0 in
+    before (tally n vs c 0 place) (tally n vs (c + 1) 0 q) k place r one.0 (map constraint_record cs ++ rest) one.1 one.2
     (constraints_there cs n (c + 1) q vs rest k some all valid good.1 (omega arith)
     (subst (λ x. Runs (tally n vs x 0 (q + length (flat_map framed (map constraint_record cs)))) (q + length (flat_map framed (map constraint_record cs))) rest k) e
-    (subst (λ p. Runs (tally n vs (c + length (sum a b m l lo hi ∷ cs)) 0 p) p rest k) (sym (past_all place r (map constraint_record cs))) run)))
-constraints_there (table a b rows ∷ cs) n c place vs rest k some all valid good few run =
-    let r : Raw = constraint_record (table a b rows) in
-    let q : ℕ = past place (constraint_record (table a b rows)) in
-    let e : c + length (table a b rows ∷ cs) ≡ c + 1 + length cs = omega arith in
-    before (tally n vs c 0 place) (tally n vs (c + 1) 0 q) k place r (shows_table a b (flat_map eight rows) (place + 6)) (map constraint_record cs ++ rest) (table_shown a b place rows)
-    (table_goes n c place q a b vs rows some all (omega arith) valid good.0 (place + 6))
-    (constraints_there cs n (c + 1) q vs rest k some all valid good.1 (omega arith)
-    (subst (λ x. Runs (tally n vs x 0 (q + length (flat_map framed (map constraint_record cs)))) (q + length (flat_map framed (map constraint_record cs))) rest k) e
-    (subst (λ p. Runs (tally n vs (c + length (table a b rows ∷ cs)) 0 p) p rest k) (sym (past_all place r (map constraint_record cs))) run)))
+    (subst (λ p. Runs (tally n vs (c + length (d ∷ cs)) 0 p) p rest k) (sym (past_all place r (map constraint_record cs))) run)))
+
+-- a valid variable reads back from its record
+pub variable_again : (n : ℕ) (v : Variable) → n ≤ 32 → ValidVariable n v → variable_of (variable_record v).body ≡ v
+variable_again n v small valid =
+    let low : v.house < n = valid.house_low in
+    let few : v.size ≤ 64 = valid.few_values in
+    let size : number2 (variable_record v).body 0 ≡ v.size = two_back v.size (two v.house) (omega arith) in
+    let house : number2 (variable_record v).body 2 ≡ v.house = two_back v.house [] (omega arith) in
+    ap (λ x. record { size = x; house = number2 (variable_record v).body 2 }) size ∙ ap (λ x. record { size = v.size; house = x }) house
 
 -- a valid variable goes on
 variable_goes : (n place after : ℕ) (us : List Variable) (v : Variable) → n ≤ 32 → length us < n → ValidVariable n v → used us v.house ≡ false
@@ -120,9 +130,9 @@ variable_goes : (n place after : ℕ) (us : List Variable) (v : Variable) → n 
 variable_goes n place after us v small due valid new =
     let low : v.house < n = valid.house_low in
     let few : v.size ≤ 64 = valid.few_values in
-    let size : number2 (variable_record v).body 0 ≡ v.size = two_back v.size (two v.house) (omega arith) in
-    let house : number2 (variable_record v).body 2 ≡ v.house = two_back v.house [] (omega arith) in
-    let same : variable_of (variable_record v).body ≡ v = ap (λ x. record { size = x; house = number2 (variable_record v).body 2 }) size ∙ ap (λ x. record { size = v.size; house = x }) house in
+    let same : variable_of (variable_record v).body ≡ v = variable_again n v small valid in
+    let size : number2 (variable_record v).body 0 ≡ v.size = ap (λ w. w.size) same in
+    let house : number2 (variable_record v).body 2 ≡ v.house = ap (λ w. w.house) same in
     pass (ltb (length us) n) _ _ _ (lt-ltb _ _ due)
     (pass (between 1 64 (number2 (variable_record v).body 0)) _ _ _ (subst (λ x. between 1 64 x ≡ true) (sym size) (is_between 1 64 v.size valid.some_values few))
     (pass (house_good (tally n us 0 0 place) (number2 (variable_record v).body 2)) _ _ _

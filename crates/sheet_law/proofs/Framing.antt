@@ -1,19 +1,20 @@
 -- One record: its bytes, and what reading them gives.
-use Rattle.std.proofs.Common.{◌≡◌, ℕ, ◌+◌, ◌-◌, ◌*◌, ◌<◌, ◌≤◌, Bool, true, false, cond, ◌||◌, eqb, ltb, List, [], ◌∷◌, ◌++◌, length, take, drop, Some, None, Option, sym, refl, ap, ◌∙◌, subst, arith}
-use Rattle.std.specs.List.{AllByRecursion}
-use Rattle.std.proofs.ByRecursion.{All-take}
-use Rattle.std.proofs.lemmas.List.{length-append, length-take, drop-take, drop-drop, take-append-drop, take_at, drop_at}
+use Rattle.std.proofs.Common.{◌≡◌, ℕ, ◌+◌, ◌-◌, ◌*◌, ◌<◌, ◌≤◌, Bool, true, false, cond, ◌||◌, eqb, ltb, List, [], ◌∷◌, ◌++◌, map, length, take, drop, Some, None, Option, sym, refl, ap, ◌∙◌, subst, arith}
+use Rattle.std.specs.List.{flat_map}
+use Rattle.std.proofs.ByRecursion.{All-drop, All-take}
+use Rattle.std.proofs.lemmas.List.{length-append, length-drop, length-take, drop-take, drop-drop, take-append-drop, take_at, drop_at}
 use Rattle.std.proofs.lemmas.Bool.{ltb-false, or_parts, le-ltb, ne_eqb, cond-false, or_from}
+use Rattle.sheet_format.specs.declared.found.Variable.{Variable}
 use Rattle.sheet_format.specs.Numbers.{two, number2}
-use Rattle.sheet_format.specs.Encoding.{Raw, framed}
+use Rattle.sheet_format.specs.Encoding.{Raw, framed, variable_record}
 use Rattle.sheet_format.specs.Reading.{Shown, shown, Reading, taken, broken, taken_if, reading}
-use Rattle.sheet_law.proofs.NumberLaws.{two_back, two_out}
+use Rattle.sheet_law.proofs.NumberLaws.{two_back, Bytes, word_at}
 
 -- the bytes of a record's body, and those after it, cut from what follows the head
-pub body_cut : (xs : List ℕ) (n : ℕ) → 4 ≤ n → take (n - 4) (drop 4 xs) ≡ drop 4 (take n xs)
+body_cut : (xs : List ℕ) (n : ℕ) → 4 ≤ n → take (n - 4) (drop 4 xs) ≡ drop 4 (take n xs)
 body_cut xs n h = sym (drop-take 4 (n - 4) xs) ∙ ap (λ k. drop 4 (take k xs)) (omega arith)
 
-pub rest_cut : (xs : List ℕ) (n : ℕ) → 4 ≤ n → drop (n - 4) (drop 4 xs) ≡ drop n xs
+rest_cut : (xs : List ℕ) (n : ℕ) → 4 ≤ n → drop (n - 4) (drop 4 xs) ≡ drop n xs
 rest_cut xs n h = drop-drop (n - 4) 4 xs ∙ ap (λ k. drop k xs) (omega arith)
 
 -- a whole record is read as what its kind and body show
@@ -63,10 +64,6 @@ took xs place s rest e =
       leaves = t.1;
     }
 
--- bytes are below 256
-abbrev pub Bytes : List ℕ → Type 0
-Bytes xs = AllByRecursion (λ b. b < 256) xs
-
 -- a record whose length and kind stand in two bytes each
 pub record Short (r : Raw) : Type 0 where
   pub kind_low : r.kind < 65536
@@ -74,6 +71,11 @@ pub record Short (r : Raw) : Type 0 where
 
 pub framed-length : (r : Raw) (rest : List ℕ) → length (framed r ++ rest) ≡ 4 + (length r.body + length rest)
 framed-length r rest = let e = length-append r.body rest in omega arith
+
+-- the bytes of variables, eight each
+pub variables_long : (vs : List Variable) → length (flat_map framed (map variable_record vs)) ≡ 8 * length vs
+variables_long [] = refl
+variables_long (v ∷ vs) = let k = variables_long vs in omega arith
 
 -- the first record of bytes that begin with a framed one
 pub framed_first : (r : Raw) (rest : List ℕ) → Short r
@@ -109,40 +111,28 @@ pub record Framed (xs : List ℕ) (place : ℕ) (s : Shown) (rest : List ℕ) : 
   pub same : xs ≡ framed raw ++ rest
   pub shows : shown raw.kind raw.body place ≡ Some s
 
-frame_again : (b0 b1 b2 b3 n : ℕ) (ys : List ℕ) → b0 < 256 → b1 < 256 → b2 < 256 → b3 < 256 → b0 + b1 * 256 ≡ n → 4 ≤ n → n ≤ 4 + length ys
-    → b0 ∷ (b1 ∷ (b2 ∷ (b3 ∷ ys))) ≡ framed (record { kind = b2 + b3 * 256; body = take (n - 4) ys }) ++ drop (n - 4) ys
-frame_again b0 b1 b2 b3 n ys h0 h1 h2 h3 e low high =
-    let l : 4 + length (take (n - 4) ys) ≡ b0 + b1 * 256 = let k = length-take (n - 4) ys in omega arith in
-    sym
-    (ap (λ m. two m ++ (two (b2 + b3 * 256) ++ (take (n - 4) ys ++ drop (n - 4) ys))) l
-    ∙ ap (λ zs. zs ++ (two (b2 + b3 * 256) ++ (take (n - 4) ys ++ drop (n - 4) ys))) (two_out b0 b1 h0 h1)
-    ∙ ap (λ zs. b0 ∷ (b1 ∷ (zs ++ (take (n - 4) ys ++ drop (n - 4) ys)))) (two_out b2 b3 h2 h3)
-    ∙ ap (λ zs. b0 ∷ (b1 ∷ (b2 ∷ (b3 ∷ zs)))) (take-append-drop (n - 4) ys))
-
 pub framed_again : (xs : List ℕ) (place : ℕ) (s : Shown) (rest : List ℕ) → Bytes xs → Took xs place s rest → Framed xs place s rest
-framed_again [] place s rest b t = absurd (let l = t.at_least in let m = t.at_most in omega arith)
-framed_again (b0 ∷ []) place s rest b t = absurd (let l = t.at_least in let m = t.at_most in omega arith)
-framed_again (b0 ∷ (b1 ∷ [])) place s rest b t = absurd (let l = t.at_least in let m = t.at_most in omega arith)
-framed_again (b0 ∷ (b1 ∷ (b2 ∷ []))) place s rest b t = absurd (let l = t.at_least in let m = t.at_most in omega arith)
-framed_again (b0 ∷ (b1 ∷ (b2 ∷ (b3 ∷ ys)))) place s rest b t =
-    let low = t.at_least in
-    let most = t.at_most in
-    let high : t.long ≤ 4 + length ys = omega arith in
-    let xs : List ℕ = b0 ∷ (b1 ∷ (b2 ∷ (b3 ∷ ys))) in
-    let cut : drop 4 (take t.long xs) ≡ take (t.long - 4) ys = sym (body_cut xs t.long low) in
-    let after : drop t.long xs ≡ drop (t.long - 4) ys = sym (rest_cut xs t.long low) in
-    let says : b0 + b1 * 256 ≡ t.long = t.says in
-    let h0 : b0 < 256 = b.0 in
-    let h1 : b1 < 256 = b.1.0 in
-    let h2 : b2 < 256 = b.1.1.0 in
-    let h3 : b3 < 256 = b.1.1.1.0 in
-    let k = length-take (t.long - 4) ys in
+framed_again xs place s rest b t =
+    let low : 4 ≤ t.long = t.at_least in
+    let most : t.long ≤ length xs = t.at_most in
+    let says : number2 xs 0 ≡ t.long = t.says in
+    let body : List ℕ = drop 4 (take t.long xs) in
+    let head = word_at xs 0 b (omega arith) in
+    let kind = word_at xs 2 b (omega arith) in
+    let cut = length-take t.long xs in
+    let many = length-drop 4 (take t.long xs) in
+    let long : number2 xs 0 ≡ 4 + length (drop 4 (take t.long xs)) = omega arith in
+    let after : drop 4 xs ≡ body ++ rest =
+    sym (take-append-drop (t.long - 4) (drop 4 xs))
+    ∙ ap (λ ys. ys ++ drop (t.long - 4) (drop 4 xs)) (body_cut xs t.long low)
+    ∙ ap (λ ys. body ++ ys) (rest_cut xs t.long low ∙ sym t.leaves) in
     record {
-      raw = record { kind = b2 + b3 * 256; body = take (t.long - 4) ys };
-      short = record { kind_low = omega arith; length_low = omega arith };
-      bytes = All-take (λ x. x < 256) (t.long - 4) ys b.1.1.1.1;
+      raw = record { kind = number2 xs 2; body = body };
+      short = record { kind_low = kind.1; length_low = (let h = head.1 in omega arith) };
+      bytes = All-drop (λ x. x < 256) 4 (take t.long xs) (All-take (λ x. x < 256) t.long xs b);
       same =
-          frame_again b0 b1 b2 b3 t.long ys h0 h1 h2 h3 says low high
-          ∙ ap (λ zs. framed (record { kind = b2 + b3 * 256; body = take (t.long - 4) ys }) ++ zs) (sym (t.leaves ∙ after));
-      shows = ap (λ body. shown (b2 + b3 * 256) body place) (sym cut) ∙ t.shows;
+          head.0
+          ∙ ap (λ ys. two (number2 xs 0) ++ ys) (kind.0 ∙ ap (λ ys. two (number2 xs 2) ++ ys) after)
+          ∙ ap (λ n. two n ++ (two (number2 xs 2) ++ (body ++ rest))) long;
+      shows = t.shows;
     }

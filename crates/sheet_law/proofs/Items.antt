@@ -1,9 +1,8 @@
 -- Each kind of record: what passes the check is the record of a valid item, and the record of a valid item passes.
-use Rattle.std.proofs.Common.{◌≡◌, ℕ, ◌+◌, ◌*◌, ◌^◌, ◌<◌, ◌≤◌, true, not, ◌&&◌, eqb, ltb, leb, List, [], ◌∷◌, ◌++◌, length, get_or, drop, ℤ, pos, negsuc, ◌≤ℤ◌, sym, ap, ◌∙◌, arith, w16, w32, SFits, to_z, of_z}
+use Rattle.std.proofs.Common.{◌≡◌, ℕ, ◌^◌, ◌<◌, ◌≤◌, true, not, ◌&&◌, eqb, ltb, leb, List, [], ◌∷◌, ◌++◌, length, get_or, drop, ℤ, pos, negsuc, ◌≤ℤ◌, sym, ap, ◌∙◌, arith, w16, w32, SFits, to_z, of_z}
 use lib.Signed.{le_z}
 use mir.Facts.{sfits_to_z, Fits-of_z}
 use Rattle.std.proofs.lemmas.List.{drop_more, drop_all, append-nil}
-use Rattle.std.proofs.ByRecursion.{All-get_or}
 use Rattle.std.proofs.lemmas.Int.{to_z-of_z, of_z-to_z, ints}
 use Rattle.std.proofs.lemmas.Bool.{ltb-true, leb-true, eqb-false, and_parts, and_from, not-true, lt-ltb, le-leb, ne_eqb, not_from_false}
 use Rattle.sheet_format.specs.Numbers.{two, four, number2, number4}
@@ -11,8 +10,7 @@ use Rattle.sheet_format.specs.Value.{sum, ValidEnds, ValidSum}
 use Rattle.sheet_format.specs.Encoding.{Raw, constraint_record}
 use Rattle.sheet_format.specs.Decoding.{sum_in}
 use Rattle.sheet_format.specs.Verdict.{between, between_z, ends_good, sum_good, sum_body_good}
-use Rattle.sheet_law.proofs.NumberLaws.{two_back, four_back, two_out, four_out}
-use Rattle.sheet_law.proofs.Framing.{Bytes}
+use Rattle.sheet_law.proofs.NumberLaws.{two_back, four_back, Bytes, word_at, long_at}
 
 -- a record from its kind and its body
 pub same_raw : (r : Raw) (kind : ℕ) (body : List ℕ) → r.kind ≡ kind → r.body ≡ body → r ≡ record { kind = kind; body = body }
@@ -44,61 +42,16 @@ is_le_z a b h = grind (arith, ints)
 
 -- a body of four bytes is two numbers
 pub two_numbers : (body : List ℕ) → Bytes body → length body ≡ 4 → body ≡ two (number2 body 0) ++ two (number2 body 2)
-two_numbers [] b l = absurd (omega arith)
-two_numbers (x0 ∷ []) b l = absurd (omega arith)
-two_numbers (x0 ∷ (x1 ∷ [])) b l = absurd (omega arith)
-two_numbers (x0 ∷ (x1 ∷ (x2 ∷ []))) b l = absurd (omega arith)
-two_numbers (x0 ∷ (x1 ∷ (x2 ∷ (x3 ∷ (x4 ∷ xs))))) b l = absurd (omega arith)
-two_numbers (x0 ∷ (x1 ∷ (x2 ∷ (x3 ∷ [])))) b l =
-    sym
-    (ap (λ ys. ys ++ two (x2 + x3 * 256)) (two_out x0 x1 b.0 b.1.0)
-    ∙ ap (λ ys. x0 ∷ (x1 ∷ ys)) (two_out x2 x3 b.1.1.0 b.1.1.1.0))
+two_numbers body b l =
+    (word_at body 0 b (omega arith)).0
+    ∙ ap (λ ys. two (number2 body 0) ++ ys)
+    ((word_at body 2 b (omega arith)).0 ∙ ap (λ ys. two (number2 body 2) ++ ys) (drop_all 4 body (omega arith)) ∙ append-nil (two (number2 body 2)))
 
 -- a body of two bytes is one number
 pub one_number : (body : List ℕ) → Bytes body → length body ≡ 2 → (body ≡ two (number2 body 0)) × (number2 body 0 < 65536)
-one_number [] b l = absurd (omega arith)
-one_number (x0 ∷ []) b l = absurd (omega arith)
-one_number (x0 ∷ (x1 ∷ (x2 ∷ xs))) b l = absurd (omega arith)
-one_number (x0 ∷ (x1 ∷ [])) b l =
-    let h0 : x0 < 256 = b.0 in
-    let h1 : x1 < 256 = b.1.0 in
-    (sym (two_out x0 x1 h0 h1), omega arith)
-
-word_fits : (a b : ℕ) → a < 256 → b < 256 → a + b * 256 < 2 ^ 16
-word_fits a b h k = omega arith
-
-long_fits : (a b c d : ℕ) → a < 256 → b < 256 → c < 256 → d < 256 → (a + b * 256) + (c + d * 256) * 65536 < 2 ^ 32
-long_fits a b c d ha hb hc hd = omega arith
-
-byte_at : (xs : List ℕ) (k : ℕ) → Bytes xs → k < length xs → get_or xs k 0 < 256
-byte_at xs k b l = All-get_or (λ x. x < 256) xs k 0 l b
-
--- two bytes, and four, from a place on, are those of the number that stands there
-word_at : (xs : List ℕ) (k : ℕ) → Bytes xs → k + 1 < length xs → (drop k xs ≡ two (number2 xs k) ++ drop (k + 1 + 1) xs) × (number2 xs k < 65536)
-word_at xs k b l =
-    let h0 : get_or xs k 0 < 256 = byte_at xs k b (omega arith) in
-    let h1 : get_or xs (k + 1) 0 < 256 = byte_at xs (k + 1) b l in (
-      drop_more xs k 0 (omega arith)
-          ∙ ap (λ ys. get_or xs k 0 ∷ ys) (drop_more xs (k + 1) 0 l)
-          ∙ ap (λ ys. ys ++ drop (k + 1 + 1) xs) (sym (two_out (get_or xs k 0) (get_or xs (k + 1) 0) h0 h1)),
-      omega arith,
-    )
-
-long_at : (xs : List ℕ) (k : ℕ) → Bytes xs → k + 2 + 1 < length xs → (drop k xs ≡ four (number4 xs k) ++ drop (k + 2 + 1 + 1) xs) × (number4 xs k < 2 ^ 32)
-long_at xs k b l =
-    let h0 : get_or xs k 0 < 256 = byte_at xs k b (omega arith) in
-    let h1 : get_or xs (k + 1) 0 < 256 = byte_at xs (k + 1) b (omega arith) in
-    let h2 : get_or xs (k + 2) 0 < 256 = byte_at xs (k + 2) b (omega arith) in
-    let h3 : get_or xs (k + 2 + 1) 0 < 256 = byte_at xs (k + 2 + 1) b l in
-    let next : k + 1 + 1 ≡ k + 2 = omega arith in (
-      drop_more xs k 0 (omega arith)
-          ∙ ap (λ ys. get_or xs k 0 ∷ ys) (drop_more xs (k + 1) 0 (omega arith))
-          ∙ ap (λ n. get_or xs k 0 ∷ (get_or xs (k + 1) 0 ∷ drop n xs)) next
-          ∙ ap (λ ys. get_or xs k 0 ∷ (get_or xs (k + 1) 0 ∷ ys)) (drop_more xs (k + 2) 0 (omega arith))
-          ∙ ap (λ ys. get_or xs k 0 ∷ (get_or xs (k + 1) 0 ∷ (get_or xs (k + 2) 0 ∷ ys))) (drop_more xs (k + 2 + 1) 0 l)
-          ∙ ap (λ ys. ys ++ drop (k + 2 + 1 + 1) xs) (sym (four_out (get_or xs k 0) (get_or xs (k + 1) 0) (get_or xs (k + 2) 0) (get_or xs (k + 2 + 1) 0) h0 h1 h2 h3)),
-      omega arith,
-    )
+one_number body b l =
+    let w = word_at body 0 b (omega arith) in
+    (w.0 ∙ ap (λ ys. two (number2 body 0) ++ ys) (drop_all 2 body (omega arith)) ∙ append-nil (two (number2 body 0)), w.1)
 
 -- a body of fourteen bytes is that of the sum which it gives
 pub sum_again : (body : List ℕ) → Bytes body → length body ≡ 14 → (body ≡ (constraint_record (sum_in body)).body) × (number4 body 6 < 2 ^ 32) × (number4 body 10 < 2 ^ 32)

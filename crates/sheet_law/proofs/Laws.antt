@@ -1,29 +1,28 @@
 -- The law of sheets.
-use Rattle.std.proofs.Common.{◌≡◌, ℕ, zero, suc, ◌+◌, ◌-◌, ◌*◌, ◌/◌, ◌<◌, ◌≤◌, Bool, true, false, cond, ltb, List, [], ◌∷◌, ◌++◌, map, length, take, drop, Some, None, Ok, Err, Option, sym, refl, ap, ◌∙◌, subst, zero-add, arith}
+use Rattle.std.proofs.Common.{◌≡◌, ℕ, zero, suc, ◌+◌, ◌-◌, ◌*◌, ◌/◌, ◌<◌, ◌≤◌, Bool, true, false, cond, ltb, List, [], ◌∷◌, ◌++◌, map, length, get_or, take, drop, Some, None, Ok, Err, Option, sym, refl, ap, ◌∙◌, subst, zero-add, arith}
 use Rattle.std.specs.Option.{option_to_list}
 use Rattle.std.specs.List.{flat_map, AllByRecursion}
 use Rattle.std.proofs.lemmas.List.{append_assoc, append-nil}
-use Rattle.std.proofs.lemmas.Nat.{div-mul-add}
-use Rattle.std.proofs.ByRecursion.{All-append, All-map, All-weaker}
+use Rattle.std.proofs.ByRecursion.{All-from_get_or, All-append, All-map, All-weaker}
 use Rattle.std.proofs.lemmas.Bool.{ltb-true, ltb-false}
 use Rattle.sheet_format.specs.declared.found.Variable.{Variable}
 use Rattle.sheet_format.specs.declared.found.Summary.{Summary}
 use Rattle.sheet_format.specs.declared.faults.Cause.TheVariants.{TooLong}
 use Rattle.sheet_format.specs.declared.faults.SheetFault.{SheetFault}
-use Rattle.sheet_format.specs.Numbers.{two, eight, number2}
+use Rattle.sheet_format.specs.Numbers.{eight, number2}
 use Rattle.sheet_format.specs.Value.{Constraint, sum, table, Move, add, retract, Sheet, size_at, ValidVariable, ValidConstraint, ValidMove}
 use Rattle.sheet_format.specs.Encoding.{Raw, framed, heading_record, variable_record, constraint_record, move_record, end_record, records_of, encode, Valid}
 use Rattle.sheet_format.specs.Decoding.{first_record, split, rows_in, as_variable, as_constraint, as_move, gathered, sheet_of, decode}
 use Rattle.sheet_format.specs.Verdict.{Tally, nothing_yet, summary, Verdict, format_fault, walked, verdict}
 use Rattle.sheet_format.specs.Law.{summary_of, Encodes, Law}
-use Rattle.sheet_law.proofs.NumberLaws.{two_back}
-use Rattle.sheet_law.proofs.Framing.{Bytes, Short, framed-length, framed_first}
+use Rattle.sheet_law.proofs.NumberLaws.{two_back, Bytes}
+use Rattle.sheet_law.proofs.Framing.{Short, framed-length, framed_first}
 use Rattle.sheet_law.proofs.Walks.{Runs, accepted, Accepted, runs}
 use Rattle.sheet_law.proofs.Rows.{rows_there}
 use Rattle.sheet_law.proofs.Items.{sum_there}
 use Rattle.sheet_law.proofs.Backward.{AllBytes, tally, Whole, Tail, tail_back}
 use Rattle.sheet_law.proofs.Variables.{Front, front_back, Headed, headed_back}
-use Rattle.sheet_law.proofs.Forward.{size_low, last_tally, sheet_runs}
+use Rattle.sheet_law.proofs.Forward.{size_low, variable_again, last_tally, sheet_runs}
 
 -- framed records, split again
 pub split_back : (rs : List Raw) (most : ℕ) → length rs ≤ most → AllByRecursion Short rs → split most (flat_map framed rs) ≡ rs
@@ -93,19 +92,14 @@ gathered_none f g [] h = refl
 gathered_none f g (x ∷ xs) h = ap (λ o. option_to_list o ++ gathered f (map g xs)) (h x) ∙ gathered_none f g xs h
 
 variable_back : (n : ℕ) (v : Variable) → n ≤ 32 → ValidVariable n v → as_variable (variable_record v) ≡ Some v
-variable_back n v small valid =
-    let low : v.house < n = valid.house_low in
-    let few : v.size ≤ 64 = valid.few_values in
-    let size : number2 (variable_record v).body 0 ≡ v.size = two_back v.size (two v.house) (omega arith) in
-    let house : number2 (variable_record v).body 2 ≡ v.house = two_back v.house [] (omega arith) in
-    ap (λ x. Some (record { size = x; house = number2 (variable_record v).body 2 })) size ∙ ap (λ x. Some (record { size = v.size; house = x })) house
+variable_back n v small valid = ap Some (variable_again n v small valid)
 
 pub constraint_back : (vs : List Variable) (c : Constraint) → AllByRecursion (ValidVariable (length vs)) vs → ValidConstraint vs c → as_constraint (constraint_record c) ≡ Some c
 constraint_back vs (sum a b m k lo hi) valid v = ap Some (sum_there (length vs) a b m k lo hi v).0
 constraint_back vs (table a b rows) valid v =
     let there = rows_there (size_at vs b) rows [] (size_low (length vs) vs b valid v.ends.b_low) v.low_bits in
     let long : length (flat_map eight rows) ≡ 8 * length rows = there.2 in
-    let count : length (flat_map eight rows) / 8 ≡ length rows = (let m : length (flat_map eight rows) ≡ length rows * 8 + 0 = omega arith in ap (λ x. x / 8) m ∙ div-mul-add (length rows) 8 0 (omega arith)) in
+    let count : length (flat_map eight rows) / 8 ≡ length rows = omega arith in
     let same : rows_in (length rows) (flat_map eight rows) ≡ rows = subst (λ xs. rows_in (length rows) xs ≡ rows) (append-nil (flat_map eight rows)) there.1 in
     ap (λ x. Some (table a b (rows_in x (flat_map eight rows)))) count ∙ ap (λ x. Some (table a b x)) same
 
@@ -247,7 +241,7 @@ refused_law xs f e s v same =
     clash : (z : Summary) (g : SheetFault) → ◌≡◌ {A = Verdict} (Ok z) (Err g) → ⊥
     clash z g h = let y : ◌≡◌ {A = ℕ} 0 1 = cc in omega arith
 
-pub law : (xs : List ℕ) → Bytes xs → Law xs (verdict xs)
+law : (xs : List ℕ) → Bytes xs → Law xs (verdict xs)
 law xs b = sized (ltb 65535 (length xs)) refl
   where
     by_walk : (r : Verdict) → length xs ≤ 65535 → walked (suc (length xs)) xs 0 0 nothing_yet ≡ r → Law xs r
@@ -257,3 +251,7 @@ law xs b = sized (ltb 65535 (length xs)) refl
     sized : (t : Bool) → ltb 65535 (length xs) ≡ t → Law xs (cond t (format_fault TooLong 65535 0) (walked (suc (length xs)) xs 0 0 nothing_yet))
     sized true e = λ s v same. let l : 65535 < length xs = ltb-true 65535 (length xs) e in let k = v.short in let m = ap length same in omega arith
     sized false e = by_walk (walked (suc (length xs)) xs 0 0 nothing_yet) (ltb-false 65535 (length xs) e) refl
+
+-- the same where each byte is known to be below 256 by its place
+pub law_at : (xs : List ℕ) → ((k : ℕ) → get_or xs k 0 < 256) → Law xs (verdict xs)
+law_at xs low = law xs (All-from_get_or (λ b. b < 256) xs 0 (λ i _. low i))

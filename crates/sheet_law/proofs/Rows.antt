@@ -1,30 +1,13 @@
 -- The rows of a table, written and read back.
-use Rattle.std.proofs.Common.{◌≡◌, ℕ, zero, suc, ◌+◌, ◌*◌, ◌^◌, ◌<◌, ◌≤◌, true, ltb, List, [], ◌∷◌, ◌++◌, length, sym, refl, ap, ◌∙◌, subst, le_trans, arith, pow_mono}
+use Rattle.std.proofs.Common.{◌≡◌, ℕ, zero, suc, ◌*◌, ◌^◌, ◌<◌, ◌≤◌, true, ltb, List, [], ◌∷◌, ◌++◌, length, drop, sym, refl, ap, ◌∙◌, subst, le_trans, arith, pow_mono}
 use Rattle.std.specs.List.{flat_map, AllByRecursion}
-use Rattle.std.proofs.lemmas.List.{nil_from_length}
+use Rattle.std.proofs.lemmas.List.{nil_from_length, length-drop}
+use Rattle.std.proofs.ByRecursion.{All-drop}
 use Rattle.std.proofs.lemmas.Bool.{ltb-true, lt-ltb, and_parts, and_from}
-use Rattle.sheet_format.specs.Numbers.{four, eight, number8}
+use Rattle.sheet_format.specs.Numbers.{eight, number8}
 use Rattle.sheet_format.specs.Verdict.{rows_good}
 use Rattle.sheet_format.specs.Decoding.{rows_in}
-use Rattle.sheet_law.proofs.NumberLaws.{eight_back, four_out, eight_out}
-use Rattle.sheet_law.proofs.Framing.{Bytes}
-
--- eight bytes are those of the number that stands in them
-eight_again : (a b c d e f g h : ℕ) (rest : List ℕ) → Bytes (a ∷ (b ∷ (c ∷ (d ∷ (e ∷ (f ∷ (g ∷ (h ∷ rest))))))))
-    → eight (number8 (a ∷ (b ∷ (c ∷ (d ∷ (e ∷ (f ∷ (g ∷ (h ∷ rest)))))))) 0) ≡ a ∷ (b ∷ (c ∷ (d ∷ (e ∷ (f ∷ (g ∷ (h ∷ [])))))))
-eight_again a b c d e f g h rest y =
-    let ha : a < 256 = y.0 in
-    let hb : b < 256 = y.1.0 in
-    let hc : c < 256 = y.1.1.0 in
-    let hd : d < 256 = y.1.1.1.0 in
-    let he : e < 256 = y.1.1.1.1.0 in
-    let hf : f < 256 = y.1.1.1.1.1.0 in
-    let hg : g < 256 = y.1.1.1.1.1.1.0 in
-    let hh : h < 256 = y.1.1.1.1.1.1.1.0 in
-    let low : (a + b * 256) + (c + d * 256) * 65536 < 4294967296 = omega arith in
-    eight_out ((a + b * 256) + (c + d * 256) * 65536) ((e + f * 256) + (g + h * 256) * 65536) low
-    ∙ ap (λ ys. ys ++ four ((e + f * 256) + (g + h * 256) * 65536)) (four_out a b c d ha hb hc hd)
-    ∙ ap (λ ys. a ∷ (b ∷ (c ∷ (d ∷ ys)))) (four_out e f g h he hf hg hh)
+use Rattle.sheet_law.proofs.NumberLaws.{eight_back, Bytes, row_first}
 
 -- rows that are good are those read back, and each has its bits below the size
 pub record RowsBack (count size : ℕ) (xs : List ℕ) : Type 0 where
@@ -35,23 +18,13 @@ pub record RowsBack (count size : ℕ) (xs : List ℕ) : Type 0 where
 pub rows_back : (count size : ℕ) (xs : List ℕ) → Bytes xs → length xs ≡ 8 * count → rows_good count size xs ≡ true → RowsBack count size xs
 unfolding rows_good rows_in
 rows_back zero size xs b l g = record { many = refl; same = nil_from_length xs l; low = tt }
-rows_back (suc count) size [] b l g = absurd (omega arith)
-rows_back (suc count) size (x0 ∷ []) b l g = absurd (omega arith)
-rows_back (suc count) size (x0 ∷ (x1 ∷ [])) b l g = absurd (omega arith)
-rows_back (suc count) size (x0 ∷ (x1 ∷ (x2 ∷ []))) b l g = absurd (omega arith)
-rows_back (suc count) size (x0 ∷ (x1 ∷ (x2 ∷ (x3 ∷ [])))) b l g = absurd (omega arith)
-rows_back (suc count) size (x0 ∷ (x1 ∷ (x2 ∷ (x3 ∷ (x4 ∷ []))))) b l g = absurd (omega arith)
-rows_back (suc count) size (x0 ∷ (x1 ∷ (x2 ∷ (x3 ∷ (x4 ∷ (x5 ∷ [])))))) b l g = absurd (omega arith)
-rows_back (suc count) size (x0 ∷ (x1 ∷ (x2 ∷ (x3 ∷ (x4 ∷ (x5 ∷ (x6 ∷ []))))))) b l g = absurd (omega arith)
-rows_back (suc count) size (x0 ∷ (x1 ∷ (x2 ∷ (x3 ∷ (x4 ∷ (x5 ∷ (x6 ∷ (x7 ∷ xs)))))))) b l g =
-    let p = and_parts (ltb (number8 (x0 ∷ (x1 ∷ (x2 ∷ (x3 ∷ (x4 ∷ (x5 ∷ (x6 ∷ (x7 ∷ xs)))))))) 0) (2 ^ size)) (rows_good count size xs) g in
-    let long : length xs ≡ 8 * count = omega arith in
-    let r : RowsBack count size xs = rows_back count size xs b.1.1.1.1.1.1.1.1 long p.1 in
+rows_back (suc count) size xs b l g =
+    let p = and_parts (ltb (number8 xs 0) (2 ^ size)) (rows_good count size (drop 8 xs)) g in
+    let cut = length-drop 8 xs in
+    let r : RowsBack count size (drop 8 xs) = rows_back count size (drop 8 xs) (All-drop (λ x. x < 256) 8 xs b) (omega arith) p.1 in
     record {
       many = ap suc r.many;
-      same =
-          ap (λ ys. x0 ∷ (x1 ∷ (x2 ∷ (x3 ∷ (x4 ∷ (x5 ∷ (x6 ∷ (x7 ∷ ys)))))))) r.same
-          ∙ sym (ap (λ ys. ys ++ flat_map eight (rows_in count xs)) (eight_again x0 x1 x2 x3 x4 x5 x6 x7 xs b));
+      same = row_first xs b (omega arith) ∙ ap (λ ys. eight (number8 xs 0) ++ ys) r.same;
       low = (ltb-true _ _ p.0, r.low);
     }
 

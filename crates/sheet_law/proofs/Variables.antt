@@ -10,7 +10,7 @@ use Rattle.sheet_format.specs.Value.{ValidVariable, HousesDiffer}
 use Rattle.sheet_format.specs.Encoding.{Raw, heading_record, variable_record}
 use Rattle.sheet_format.specs.Reading.{Shown, shows_heading, shows_variable, shows_sum, shows_table, shows_short_table, shows_add, shows_retract, shows_end}
 use Rattle.sheet_format.specs.Verdict.{Tally, nothing_yet, step, goes, complete, between, used, variable_of}
-use Rattle.sheet_law.proofs.Framing.{Bytes}
+use Rattle.sheet_law.proofs.NumberLaws.{Bytes}
 use Rattle.sheet_law.proofs.Held.{HeadingHeld, VariableHeld, GoesHeld, goes_held, EndHeld, end_held}
 use Rattle.sheet_law.proofs.Walks.{past, Ended, Runs}
 use Rattle.sheet_law.proofs.Shows.{KindIs, kind_is}

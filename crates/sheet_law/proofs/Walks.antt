@@ -11,7 +11,8 @@ use Rattle.sheet_format.specs.declared.faults.Cause.TheVariants.{Trailing}
 use Rattle.sheet_format.specs.Encoding.{Raw, framed}
 use Rattle.sheet_format.specs.Reading.{Shown, shown, Reading, taken, broken, taken_if, reading}
 use Rattle.sheet_format.specs.Verdict.{Tally, Step, goes, ends, stops, step, summary, Verdict, record_fault, format_fault, after_step, after_reading, walked}
-use Rattle.sheet_law.proofs.Framing.{Took, took, Bytes, Short, framed-length, framed_read, Framed, framed_again}
+use Rattle.sheet_law.proofs.NumberLaws.{Bytes}
+use Rattle.sheet_law.proofs.Framing.{Took, took, Short, framed-length, framed_read, Framed, framed_again}
 
 -- the place after a record
 abbrev pub past : ℕ → Raw → ℕ

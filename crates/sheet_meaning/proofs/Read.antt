@@ -1,7 +1,7 @@
 -- What is read where a constraint begins.
-use Rattle.std.proofs.Common.{◌≡◌, ℕ, ◌+◌, ◌*◌, ◌<◌, ◌≤◌, List, [], ◌∷◌, ◌++◌, map, length, get_or, take, drop, set, sym, refl, ap, ◌∙◌, subst, add-zero, arith, below_more}
+use Rattle.std.proofs.Common.{◌≡◌, ℕ, ◌+◌, ◌*◌, ◌<◌, ◌≤◌, List, [], ◌∷◌, ◌++◌, map, length, take, drop, set, sym, refl, ap, ◌∙◌, subst, add-zero, arith, below_more}
 use Rattle.std.specs.List.{flat_map, AllByRecursion}
-use Rattle.std.proofs.lemmas.List.{append_assoc, take-append-drop, drop_more, drop-drop, drop_at, take_at, length-drop, get_or-drop, get_or-set_same, get_or-set_other}
+use Rattle.std.proofs.lemmas.List.{append_assoc, take-append-drop, drop_more, drop-drop, drop_at, take_at, length-drop, get_or-set_same, get_or-set_other}
 use Rattle.std.proofs.lemmas.List.Concat.{flat_map-append}
 use Rattle.sheet_format.specs.declared.found.Variable.{Variable}
 use Rattle.sheet_format.specs.declared.found.Summary.{Summary}
@@ -10,7 +10,8 @@ use Rattle.sheet_format.specs.Value.{Constraint, sum, table, Sheet, size_at, Val
 use Rattle.sheet_format.specs.Encoding.{Raw, framed, heading_record, variable_record, constraint_record, move_record, end_record, encode, Valid}
 use Rattle.sheet_format.specs.Decoding.{decode}
 use Rattle.sheet_format.specs.Law.{Encodes}
-use Rattle.sheet_law.proofs.Framing.{Short, framed-length, framed_first}
+use Rattle.sheet_law.proofs.NumberLaws.{number2-drop}
+use Rattle.sheet_law.proofs.Framing.{Short, framed-length, variables_long, framed_first}
 use Rattle.sheet_law.proofs.Rows.{rows_there}
 use Rattle.sheet_law.proofs.Forward.{size_low}
 use Rattle.sheet_meaning.specs.Meant.{constraint_at, no_constraint}
@@ -24,10 +25,6 @@ after_constraints s = flat_map framed (map move_record s.moves ++ (end_record �
 -- the bytes from the constraint p on
 abbrev pub from_constraint : Sheet → ℕ → List ℕ
 from_constraint s p = flat_map framed (map constraint_record (drop p s.constraints)) ++ after_constraints s
-
-variables_long : (vs : List Variable) → length (flat_map framed (map variable_record vs)) ≡ 8 * length vs
-variables_long [] = refl
-variables_long (v ∷ vs) = let k = variables_long vs in omega arith
 
 -- the constraints begin after the heading and the variables
 pub first_start : (s : Sheet) → drop (8 + 8 * length s.variables) (encode s) ≡ from_constraint s 0
@@ -72,12 +69,6 @@ constraint_short vs (table a b rows) valid v =
     let long : length (flat_map eight rows) ≡ 8 * length rows = (rows_there (size_at vs b) rows [] low v.low_bits).2 in
     record { kind_low = omega arith; length_low = omega arith }
 
--- a number that stands at a place
-number2-drop : (xs : List ℕ) (n : ℕ) → number2 (drop n xs) 0 ≡ number2 xs n
-number2-drop xs n =
-    ap (λ a. a + get_or (drop n xs) 1 0 * 256) (get_or-drop n xs 0 0 ∙ ap (λ k. get_or xs k 0) (add-zero n))
-    ∙ ap (λ b. get_or xs n 0 + b * 256) (get_or-drop n xs 1 0)
-
 -- where the constraints of accepted bytes begin
 pub first_place : (bytes : List ℕ) (z : Summary) → Encodes bytes z → drop z.constraints_at bytes ≡ from_constraint (decode bytes) 0
 first_place bytes z e =
@@ -100,7 +91,7 @@ stepped bytes s p place v h e =
     let short : Short r = constraint_short s.variables (constraint_at s p) v.variables_valid (constraint_valid s p v h) in
     let f = framed_first r rest short in
     let begun : BeginsAt bytes place r = begins bytes place r rest there in
-    let long : number2 bytes place ≡ 4 + length r.body = sym (number2-drop bytes place) ∙ ap (λ ys. number2 ys 0) there ∙ f.0 in
+    let long : number2 bytes place ≡ 4 + length r.body = sym (number2-drop bytes place 0 ∙ ap (number2 bytes) (add-zero place)) ∙ ap (λ ys. number2 ys 0) there ∙ f.0 in
     let fits : 4 + length r.body < 65536 = short.length_low in
     record {
       begun = begun;

@@ -1,6 +1,6 @@
 -- The sheet that bytes hold is valid, or it is empty; what it means is lawful.
 use Rattle.std.proofs.Common.{◌≡◌, ℕ, ◌<◌, ◌≤◌, Bool, true, false, cond, ltb, List, length, get_or, is_ok, Some, None, Ok, Err, Result, sym, refl, ap, ◌∙◌, subst, arith}
-use Rattle.std.proofs.ByRecursion.{All-get_or, All-from_get_or}
+use Rattle.std.proofs.ByRecursion.{All-get_or}
 use Rattle.std.proofs.lemmas.Bool.{ltb-true}
 use Rattle.catalog.specs.Meaning.{Meaning, Lawful, GoodEnds, ends_of}
 use Rattle.sheet_format.specs.declared.found.Summary.{Summary}
@@ -11,13 +11,15 @@ use Rattle.sheet_format.specs.Encoding.{encode, Valid}
 use Rattle.sheet_format.specs.Decoding.{decode}
 use Rattle.sheet_format.specs.Verdict.{verdict}
 use Rattle.sheet_format.specs.Law.{Law, Encodes}
-use Rattle.sheet_law.proofs.Laws.{law}
-use Rattle.sheet_law.proofs.Framing.{Bytes}
+use Rattle.sheet_law.proofs.Laws.{law_at}
 use Rattle.sheet_meaning.specs.Meant.{left_end, right_end, no_constraint, constraint_at, meaning_of, empty_sheet, sheet_in}
 
--- each byte of a list is below 256
-pub bytes_of : (xs : List ℕ) → ((k : ℕ) → get_or xs k 0 < 256) → Bytes xs
-bytes_of xs h = All-from_get_or (λ b. b < 256) xs 0 (λ i _. h i)
+-- accepted bytes hold the sheet that they encode
+pub accepted_in : (bytes : List ℕ) (z : Summary) → Ok z ≡ verdict bytes → sheet_in bytes ≡ decode bytes
+accepted_in bytes z e = sym (ap (λ v. cond (is_ok v) (decode bytes) empty_sheet) e)
+
+pub refused_in : (bytes : List ℕ) (f : SheetFault) → Err f ≡ verdict bytes → sheet_in bytes ≡ empty_sheet
+refused_in bytes f e = sym (ap (λ v. cond (is_ok v) (decode bytes) empty_sheet) e)
 
 -- the sheet in bytes is the one that they encode, or there is none
 pub data Holds (bytes : List ℕ) : Type 0 where
@@ -29,17 +31,10 @@ holds bytes low = by (verdict bytes) refl
   where
     by : (r : Result Summary SheetFault) → verdict bytes ≡ r → Holds bytes
     by (Ok z) e =
-        let l : Encodes bytes z = subst (Law bytes) e (law bytes (bytes_of bytes low)) in
-        let same : decode bytes ≡ sheet_in bytes = sym (ap (λ v. cond (is_ok v) (decode bytes) empty_sheet) e) in
-        a_sheet (subst Valid same l.valid) (ap encode (sym same) ∙ l.same)
-    by (Err f) e = no_sheet (ap (λ v. cond (is_ok v) (decode bytes) empty_sheet) e)
-
--- accepted bytes hold the sheet that they encode
-pub accepted_in : (bytes : List ℕ) (z : Summary) → Ok z ≡ verdict bytes → sheet_in bytes ≡ decode bytes
-accepted_in bytes z e = sym (ap (λ v. cond (is_ok v) (decode bytes) empty_sheet) e)
-
-pub refused_in : (bytes : List ℕ) (f : SheetFault) → Err f ≡ verdict bytes → sheet_in bytes ≡ empty_sheet
-refused_in bytes f e = sym (ap (λ v. cond (is_ok v) (decode bytes) empty_sheet) e)
+        let l : Encodes bytes z = subst (Law bytes) e (law_at bytes low) in
+        let same : sheet_in bytes ≡ decode bytes = accepted_in bytes z (sym e) in
+        a_sheet (subst Valid (sym same) l.valid) (ap encode same ∙ l.same)
+    by (Err f) e = no_sheet (refused_in bytes f (sym e))
 
 -- a constraint of a valid sheet
 pub constraint_valid : (s : Sheet) (p : ℕ) → Valid s → p < length s.constraints → ValidConstraint s.variables (constraint_at s p)

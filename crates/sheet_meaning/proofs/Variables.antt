@@ -1,7 +1,7 @@
 -- The variables of a sheet: where they stand, that their numbers are a numbering, and their sizes by house number.
 use Rattle.std.proofs.Common.{◌≡◌, ℕ, zero, suc, ◌+◌, ◌*◌, ◌<◌, ◌≤◌, eqb, ltb, List, [], ◌∷◌, ◌++◌, map, length, get_or, take, drop, Ok, Err, sym, refl, ap, ◌∙◌, subst, ⊎_elim, arith}
 use Rattle.std.specs.List.{flat_map}
-use Rattle.std.proofs.lemmas.List.{drop-drop, get_or-drop, length-drop, length-take-le, get_or-take, at_drop_more, at_drop_all}
+use Rattle.std.proofs.lemmas.List.{drop-drop, length-drop, length-take-le, get_or-take, at_drop_more, at_drop_all}
 use Rattle.std.proofs.lemmas.List.Concat.{flat_map-append}
 use Rattle.std.proofs.ByRecursion.{All-get_or}
 use Rattle.std.proofs.lemmas.List.FromFn.{length-map-range_with_len, get_or-map-range_with_len, fill_by_all}
@@ -16,15 +16,10 @@ use Rattle.sheet_format.specs.Encoding.{framed, heading_record, variable_record,
 use Rattle.sheet_format.specs.Decoding.{decode}
 use Rattle.sheet_format.specs.Verdict.{verdict}
 use Rattle.sheet_format.specs.Law.{Encodes}
-use Rattle.sheet_law.proofs.NumberLaws.{two_back}
+use Rattle.sheet_law.proofs.NumberLaws.{two_back, number2-drop}
 use Rattle.sheet_meaning.specs.Meant.{empty_sheet, sheet_in}
 use Rattle.sheet_meaning.specs.Placed.{number_of, numbers_of, size_of_house, SizesOf}
 use Rattle.sheet_meaning.proofs.Sheets.{accepted_in, refused_in}
-
-number2_at : (xs : List ℕ) (n k : ℕ) → number2 (drop n xs) k ≡ number2 xs (n + k)
-number2_at xs n k =
-    ap (λ a. a + get_or (drop n xs) (k + 1) 0 * 256) (get_or-drop n xs k 0)
-    ∙ ap (λ b. get_or xs (n + k) 0 + b * 256) (get_or-drop n xs (k + 1) 0 ∙ ap (λ j. get_or xs j 0) (omega arith))
 
 -- the variable e in the bytes of variables, eight bytes each
 among : (vs : List Variable) (e : ℕ) (rest : List ℕ) → e < length vs
@@ -62,8 +57,8 @@ variable_there bytes z e l h =
     let cut = length-drop (8 + 8 * e) bytes in
     record {
       room = omega arith;
-      size = sym (number2_at bytes (8 + 8 * e) 4) ∙ ap (λ ys. number2 ys 4) there ∙ two_back v.size [] (omega arith);
-      house = sym (number2_at bytes (8 + 8 * e) 6) ∙ ap (λ ys. number2 ys 6) there ∙ two_back v.house [] (omega arith);
+      size = sym (number2-drop bytes (8 + 8 * e) 4) ∙ ap (λ ys. number2 ys 4) there ∙ two_back v.size [] (omega arith);
+      house = sym (number2-drop bytes (8 + 8 * e) 6) ∙ ap (λ ys. number2 ys 6) there ∙ two_back v.house [] (omega arith);
     }
 
 -- the numbers one by one

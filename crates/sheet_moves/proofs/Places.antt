@@ -1,32 +1,38 @@
 -- Where the moves of a sheet stand in its bytes.
-use Rattle.std.proofs.Common.{◌≡◌, ℕ, zero, suc, ◌+◌, ◌*◌, ◌<◌, cond, eqb, List, [], ◌∷◌, ◌++◌, map, length, get_or, sym, refl, ap, ◌∙◌, arith}
+use Rattle.std.proofs.Common.{◌≡◌, ℕ, zero, suc, false, ◌≢◌, ◌+◌, ◌*◌, ◌<◌, cond, eqb, List, [], ◌∷◌, ◌++◌, map, length, get_or, take, sym, refl, ap, ◌∙◌, arith}
 use Rattle.std.specs.List.{flat_map, AllByRecursion}
-use Rattle.std.proofs.lemmas.List.{append_assoc, length-append, get_or-append-add}
+use Rattle.std.proofs.lemmas.List.{map_push, take_more, append_assoc, length-append, drop_at}
+use Rattle.std.proofs.lemmas.Bool.{ne_eqb}
 use Rattle.std.proofs.lemmas.List.Concat.{flat_map-append}
-use Rattle.sheet_format.specs.declared.found.Variable.{Variable}
 use Rattle.sheet_format.specs.declared.found.Summary.{Summary}
+use Rattle.sheet_format.specs.declared.kinds.Kind.{Kind}
+use Rattle.sheet_format.specs.declared.kinds.Kind.TheVariants.{Add}
+use Rattle.sheet_format.specs.Kinds.{kind_number}
 use Rattle.sheet_format.specs.Numbers.{number2}
 use Rattle.sheet_format.specs.Value.{Move, add, retract, Sheet, ValidMove}
 use Rattle.sheet_format.specs.Encoding.{framed, heading_record, variable_record, constraint_record, move_record, end_record, encode}
 use Rattle.sheet_format.specs.Decoding.{decode}
 use Rattle.sheet_format.specs.Law.{Encodes, summary_of}
-use Rattle.sheet_law.proofs.NumberLaws.{two_back}
-use Rattle.sheet_moves.specs.Moves.{move_at}
+use Rattle.sheet_law.proofs.NumberLaws.{two_back, number2-drop}
+use Rattle.sheet_law.proofs.Framing.{variables_long}
+use Rattle.sheet_moves.specs.declared.kinds.Move as code
+use Rattle.sheet_moves.specs.Moves.{said, move_at}
 
 -- stands where a list of moves has no more
 abbrev pub no_move : Move
 no_move = retract 0
 
+-- a number that no kind has is not that of an add
+pub no_add : (number : ℕ) → ((kind : Kind) → kind_number kind ≢ number) → eqb number 5 ≡ false
+no_add number none = ne_eqb number 5 (λ e. none Add (sym e))
+
 -- a move further on
 past : (front ys : List ℕ) (k j : ℕ) → j ≡ length front + k → move_at (front ++ ys) j ≡ move_at ys k
 past front ys k j e =
-    let at : (d : ℕ) → get_or (front ++ ys) (j + d) 0 ≡ get_or ys (k + d) 0 = λ d. (let s : j + d ≡ length front + (k + d) = omega arith in ap (λ n. get_or (front ++ ys) n 0) s ∙ get_or-append-add front ys (k + d) 0) in
-    let low : get_or (front ++ ys) (j + 4) 0 ≡ get_or ys (k + 4) 0 = at 4 in
-    let high : get_or (front ++ ys) (j + 4 + 1) 0 ≡ get_or ys (k + 4 + 1) 0 =
-    (let s : j + 4 + 1 ≡ j + 5 = omega arith in let t : k + 5 ≡ k + 4 + 1 = omega arith in ap (λ n. get_or (front ++ ys) n 0) s ∙ at 5 ∙ ap (λ n. get_or ys n 0) t) in
-    let number : number2 (front ++ ys) (j + 4) ≡ number2 ys (k + 4) = ap (λ a. a + get_or (front ++ ys) (j + 4 + 1) 0 * 256) low ∙ ap (λ b. get_or ys (k + 4) 0 + b * 256) high in
-    ap (λ a. cond (eqb a 5) (add (number2 (front ++ ys) (j + 4))) (retract (number2 (front ++ ys) (j + 4)))) (at 2)
-    ∙ ap (λ n. cond (eqb (get_or ys (k + 2) 0) 5) (add n) (retract n)) number
+    let at : (d i : ℕ) → i ≡ j + d → number2 (front ++ ys) i ≡ number2 ys (k + d) =
+    λ d i h. ap (number2 (front ++ ys)) (let s : i ≡ length front + (k + d) = omega arith in s) ∙ sym (number2-drop (front ++ ys) (length front) (k + d)) ∙ ap (λ xs. number2 xs (k + d)) (drop_at front ys (length front) refl) in
+    ap (λ a. cond (eqb a 5) (add (number2 (front ++ ys) (j + 4))) (retract (number2 (front ++ ys) (j + 4)))) (at 2 (j + 2) refl)
+    ∙ ap (λ n. cond (eqb (number2 ys (k + 2)) 5) (add n) (retract n)) (at 4 (j + 4) refl)
 
 first : (m : Move) (rest : List ℕ) → ValidMove m → move_at (framed (move_record m) ++ rest) 0 ≡ m
 first (add p) rest valid = ap add (two_back p rest valid)
@@ -47,13 +53,10 @@ in_order (m ∷ ms) rest (suc i) l valid =
     ∙ past (framed (move_record m)) (flat_map framed (map move_record ms) ++ rest) (6 * i) (6 * suc i) (omega arith)
     ∙ in_order ms rest i (omega arith) valid.1
 
-variables_long : (vs : List Variable) → length (flat_map framed (map variable_record vs)) ≡ 8 * length vs
-variables_long [] = refl
-variables_long (v ∷ vs) = let k = variables_long vs in let l = length-append (framed (variable_record v)) (flat_map framed (map variable_record vs)) in omega arith
-
 moves_long : (ms : List Move) → length (flat_map framed (map move_record ms)) ≡ 6 * length ms
 moves_long [] = refl
-moves_long (m ∷ ms) = let k = moves_long ms in let l = length-append (framed (move_record m)) (flat_map framed (map move_record ms)) in let s = six m in omega arith
+moves_long (add p ∷ ms) = let k = moves_long ms in omega arith
+moves_long (retract p ∷ ms) = let k = moves_long ms in omega arith
 
 -- all that stands before the moves
 before : Sheet → List ℕ
@@ -99,3 +102,13 @@ moves_fit xs found e =
     let b = length-append (flat_map framed (map move_record (decode xs).moves)) (framed end_record) in
     let c = moves_long (decode xs).moves in
     omega arith
+
+-- one move more
+pub moves_more : (xs : List ℕ) (found : Summary) (i : ℕ) (ms : List code.Move) (m : code.Move) → Encodes xs found → i < found.moves
+    → map said ms ≡ take i (decode xs).moves → said m ≡ move_at xs (found.moves_at + 6 * i) → map said (ms ++ (m ∷ [])) ≡ take (i + 1) (decode xs).moves
+moves_more xs found i ms m e h so here =
+    let many : found.moves ≡ length (decode xs).moves = ap (λ z. z.moves) e.sums_up in
+    map_push said ms m
+    ∙ ap (λ ys. ys ++ (said m ∷ [])) so
+    ∙ ap (λ x. take i (decode xs).moves ++ (x ∷ [])) (here ∙ move_there xs found e i h)
+    ∙ sym (take_more (decode xs).moves i no_move (omega arith))

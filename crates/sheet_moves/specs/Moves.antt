@@ -1,5 +1,5 @@
 -- Moves in the code, as the sheet's value has them.
-use Rattle.std.specs.Prelude.{◌≡◌, ℕ, ◌+◌, cond, List, Err, ◌==◌, slice_index}
+use Rattle.std.specs.Prelude.{◌≡◌, ℕ, ◌+◌, cond, List, Err, ◌==◌}
 use Rattle.sheet_format.specs.Numbers.{number2}
 use Rattle.sheet_format.specs.Value as value
 use Rattle.sheet_format.specs.Verdict.{Verdict}
@@ -15,7 +15,7 @@ said (Retract p) = value.retract p
 
 -- the move whose record begins at the byte k
 abbrev pub move_at : List ℕ → ℕ → value.Move
-move_at xs k = cond (slice_index xs (k + 2) == 5) (value.add (number2 xs (k + 4))) (value.retract (number2 xs (k + 4)))
+move_at xs k = cond (number2 xs (k + 2) == 5) (value.add (number2 xs (k + 4))) (value.retract (number2 xs (k + 4)))
 
 -- there are no moves: memory may be wanting at any time, and a sheet's fault is that of its verdict
 abbrev pub Refused : Verdict → MovesFault → Type 0

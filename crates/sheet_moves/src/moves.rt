@@ -7,7 +7,7 @@ ghost use Rattle.sheet_moves.specs.declared.moves.MovesFault.TheVariants.{Sheet,
 
 use crate::kinds::Move;
 use sheet::check;
-use sheet_format::{SheetFault, word};
+use sheet_format::{Kind, SheetFault, word};
 use std::alloc::{AllocError, Global};
 
 // Why there are no moves: the sheet is refused, or there is no memory for them.
@@ -34,21 +34,21 @@ impl From<AllocError> for MovesFault {
     }
 }
 
-// The move whose record begins at the byte k. By its one byte, since the check has seen a 5 or a 6 there: a match on `Kind` would have an arm for the
-// five kinds that it is not.
+// The move whose record begins at the byte k, where the check has seen one.
+#[tactic(auto, using(crate::proofs::Places::no_add))]
 fn move_at(sheet: &[u8], k: usize) -> Move
     requires { k + 5 < length sheet.now }
     ensures { said result ≡ move_at sheet.now k }
 {
     let index = word(sheet, k + 4);
-    if sheet[k + 2] == 5 {
-        Move::Add(index)
-    } else {
-        Move::Retract(index)
+    match Kind::try_from(word(sheet, k + 2)) {
+        Ok(Kind::Add) => Move::Add(index),
+        _ => Move::Retract(index),
     }
 }
 
 // The moves of a sheet, in their order; nothing of a refused sheet but its fault.
+#[tactic(auto, using(crate::proofs::Places::moves_more))]
 pub fn moves_of(heap: Global, sheet: &[u8]) -> Result<Vec<Move>, MovesFault>
     ensures { MatchResult result (λ v. map said v.items ≡ (decode sheet.now).moves) (λ f. Turned (verdict sheet.now) f) }
 {

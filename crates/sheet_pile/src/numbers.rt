@@ -10,6 +10,7 @@ use sheet::Accepted;
 use std::array;
 
 // the number that e gets
+#[tactic(auto, using(crate::proofs::Known::many))]
 fn number(sheet: &Accepted<'_>, e: usize) -> usize
     ensures { result ≡ number_of (decode sheet.now.bytes.now) e }
 {
@@ -30,6 +31,7 @@ fn numbers(sheet: &Accepted<'_>) -> [usize; 32]
 
 // Entry e is the house number of the sheet's variable e, and e itself past the sheet's variables. For a sheet that the check refuses each
 // entry is its own index.
+#[tactic(auto, using(crate::proofs::Known::numbers_at, sheet_meaning::proofs::Variables::own_numbers))]
 pub fn numbering(bytes: &[u8]) -> Numbering
     ensures { result.to ≡ numbers_of (sheet_in bytes.now) }
 {

@@ -59,10 +59,4 @@ unfolding all_below
 second = largest_under (meaning_of chain_sheet) (3 ∷ 3 ∷ 3 ∷ []) (1 ∷ []) ((0 ∷ 1 ∷ 2 ∷ []) ∷ (0 ∷ 1 ∷ []) ∷ (1 ∷ 2 ∷ []) ∷ []) ((1, 2, 1) ∷ (2, 0, 1) ∷ []) refl
 
 pub holds : ChainHolds
-holds = record {
-  accepted = accepted;
-  sizes = subst (λ s. SizesOf s (3 ∷ 3 ∷ 3 ∷ [])) (sym held) sizes;
-  first = subst (λ s. LargestUnder (meaning_of s) (3 ∷ 3 ∷ 3 ∷ []) (0 ∷ []) ((0 ∷ 1 ∷ []) ∷ (1 ∷ 2 ∷ []) ∷ (0 ∷ 1 ∷ 2 ∷ []) ∷ [])) (sym held) first;
-  both = subst (λ s. LargestUnder (meaning_of s) (3 ∷ 3 ∷ 3 ∷ []) (0 ∷ 1 ∷ []) ((0 ∷ []) ∷ (1 ∷ []) ∷ (2 ∷ []) ∷ [])) (sym held) both;
-  second = subst (λ s. LargestUnder (meaning_of s) (3 ∷ 3 ∷ 3 ∷ []) (1 ∷ []) ((0 ∷ 1 ∷ 2 ∷ []) ∷ (0 ∷ 1 ∷ []) ∷ (1 ∷ 2 ∷ []) ∷ [])) (sym held) second;
-}
+holds = record { accepted = accepted; sizes = rw held sizes; first = rw held first; both = rw held both; second = rw held second }

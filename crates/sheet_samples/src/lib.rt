@@ -34,6 +34,7 @@ const CHAIN: [u8; 102] = [
 ];
 
 // The bytes of the sheet. That the largest domains are those listed is proved of what these bytes mean.
+#[tactic(auto, using(crate::proofs::Chains::holds))]
 pub fn chain_sheet() -> [u8; 102]
     ensures bytes { result ≡ chain_bytes }
     ensures holds { ChainHolds }

@@ -15,6 +15,7 @@ fn beside<C: Catalog>(catalog: &C, p: usize, x: usize, size: usize) -> usize
 }
 
 // How many pairs of values below these sizes the constraint p allows.
+#[tactic(auto, using(crate::proofs::Counted::pairs_none, crate::proofs::Counted::pairs_more))]
 pub fn pairs<C: Catalog>(catalog: &C, p: usize, left_size: usize, right_size: usize) -> usize
     requires left { left_size ≤ 64 }
     requires right { right_size ≤ 64 }

@@ -11,6 +11,7 @@ use sheet::Accepted;
 use std::array;
 
 // the size of the variable whose house number is h
+#[tactic(auto, using(crate::proofs::Known::many, sheet_meaning::proofs::Variables::house_nowhere))]
 fn size_of_house(sheet: &Accepted<'_>, h: usize) -> usize
     ensures { result ≡ size_of_house (decode sheet.now.bytes.now).variables h }
 {
@@ -34,18 +35,19 @@ fn sizes_in(sheet: &Accepted<'_>) -> [usize; 32]
 
 impl Sizes {
     // The sizes that the sheet gives; none for a sheet that the check refuses.
+    #[tactic(auto, using(crate::proofs::Known::sizes_at, sheet_meaning::proofs::Variables::refused_sizes))]
     pub fn of(bytes: &[u8]) -> Sizes
         ensures { SizesOf (sheet_in bytes.now) (listed result) }
     {
-        match Accepted::new(bytes) {
-            Ok(sheet) => Sizes {
-                sizes: sizes_in(&sheet),
-                count: sheet.found.variables as usize,
-            },
-            Err(_) => Sizes {
+        let Ok(sheet) = Accepted::new(bytes) else {
+            return Sizes {
                 sizes: [0; 32],
                 count: 0,
-            },
+            };
+        };
+        Sizes {
+            sizes: sizes_in(&sheet),
+            count: sheet.found.variables as usize,
         }
     }
 

@@ -1,7 +1,7 @@
 use Rattle.std.proofs.Common.{suc, ◌+◌, ◌-◌, length, Err, sym, ap, ◌∙◌, arith}
 use Rattle.std.proofs.lemmas.Result.{err_from_is_err_and}
 use Rattle.sheet_format.specs.Verdict.{walked}
-use Rattle.sheet.proofs.Answered.{walk_more, told_end, told_more}
+use Rattle.sheet.proofs.Answered.{walk_more}
 use Rattle.sheet.proofs.checking.walk_through.Goals as goal
 
 pub returns-in_err-summary : goal.returns-in_err-summary
@@ -11,28 +11,25 @@ returns-in_err-summary c =
     p.1
     ∙ ap Err p.2
     ∙ sym (c.in_err-summary.ensures (walked (suc (length c.args.sheet.now) - (w.1.1.1.0 + 1))))
-    ∙ sym (walk_more c.args.sheet.now w.1.0.now w.1.1.0 w.1.1.1.0 w.0 (omega arith))
-    ∙ c.loop-summary.invariant.0
+    ∙ walk_more c.args.sheet.now w.1.0.now w.1.1.0 w.1.1.1.0 w.0 _ (omega arith) c.loop-summary.invariant.0
 
 pub returns-in-Break : goal.returns-in-Break
 returns-in-Break c =
     let w = c.loop-summary.walk in
-    let a = told_end _ c.in_ok-summary.field-0 c.in-Break.summary c.in-Break.is c.in_ok-summary.ensures in
+    let a = rw c.in-Break.is at c.in_ok-summary.ensures in
     sym (a (walked (suc (length c.args.sheet.now) - (w.1.1.1.0 + 1))))
-    ∙ sym (walk_more c.args.sheet.now w.1.0.now w.1.1.0 w.1.1.1.0 w.0 (omega arith))
-    ∙ c.loop-summary.invariant.0
+    ∙ walk_more c.args.sheet.now w.1.0.now w.1.1.0 w.1.1.1.0 w.0 _ (omega arith) c.loop-summary.invariant.0
 
 pub loop-summary-preserved : goal.loop-summary-preserved
 loop-summary-preserved c =
     let w = c.loop-summary.walk in
     let next = c.in-Continue.next in
-    let a = told_more _ c.in_ok-summary.field-0 c.in-Continue.next c.in-Continue.is c.in_ok-summary.ensures in
+    let a = rw c.in-Continue.is at c.in_ok-summary.ensures in
     let counted = next.counted in
     let few = next.few in (
       ap (λ n. walked (suc (length c.args.sheet.now) - n) next.input.now next.place n next.progress) a.counted
           ∙ sym (a.goes_on (walked (suc (length c.args.sheet.now) - (w.1.1.1.0 + 1))))
-          ∙ sym (walk_more c.args.sheet.now w.1.0.now w.1.1.0 w.1.1.1.0 w.0 (omega arith))
-          ∙ c.loop-summary.invariant.0,
+          ∙ walk_more c.args.sheet.now w.1.0.now w.1.1.0 w.1.1.1.0 w.0 _ (omega arith) c.loop-summary.invariant.0,
       omega (arith, a.same_end),
       counted,
       few,

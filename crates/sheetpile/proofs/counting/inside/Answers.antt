@@ -1,7 +1,5 @@
-use Rattle.std.proofs.Common.{◌≡◌, ℕ, vec_items, ap, ◌∙◌}
-use Rattle.std.proofs.lemmas.Result.{IfOk-from_err}
+use Rattle.std.proofs.Common.{vec_items, ap, ◌∙◌}
 use Rattle.scratch.specs.Named.{named}
-use Rattle.sheetpile.specs.Counts.{is_inside}
 use Rattle.sheetpile.proofs.Counted.{inside_yes, inside_no}
 use Rattle.sheetpile.proofs.counting.inside.Goals as goal
 use Rattle.sheetpile.proofs.counting.inside.Goals.{then-lies_inside+in_ok-push, else-lies_inside}
@@ -18,9 +16,3 @@ loop-p-preserved g c =
           ap (λ v. named (vec_items v) q) w.indices-is
           ∙ inside_no m c.args.n c.loop-p.p (vec_items c.loop-p.indices) w.if-lies_inside.ensures c.loop-p.invariant q
     ]
-
-pub returns-in_err-push : goal.returns-in_err-push
-returns-in_err-push g c =
-    IfOk-from_err c.from_residual.result
-    (λ v. (q : ℕ) → named (vec_items v) q ≡ is_inside (g.C.Catalog.meaning c.args.catalog.now) c.args.n q)
-    c.from_residual.ensures.0
