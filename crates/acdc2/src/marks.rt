@@ -1,4 +1,5 @@
 // Sets of constraints: those that are in, and those that wait for revision.
+ghost use Rattle.std.specs.Prelude.{◌≡◌, false, slice_index_or};
 
 // One mark for each constraint, and no list of those marked, since adding a constraint is not to fail for want of memory.
 // The trials' `Book` has the same of its own: it judges this solver, and a slip in a shared type would be the same on both sides.
@@ -20,7 +21,9 @@ impl Marks {
         marks
     }
 
-    pub(crate) fn has(&self, p: usize) -> bool {
+    pub(crate) fn has(&self, p: usize) -> bool
+        ensures { result ≡ slice_index_or self.now.marks p false }
+    {
         self.marks.get(p).copied().unwrap_or(false)
     }
 

@@ -1,4 +1,6 @@
 // What the solver keeps of its variables and constraints.
+ghost use Rattle.std.specs.Prelude.{◌≡◌, length};
+
 use crate::marks::Marks;
 use std::alloc::{AllocError, Global};
 
@@ -49,7 +51,9 @@ impl State {
     }
 
     // How many variables there are.
-    pub(crate) fn count(&self) -> usize {
+    pub(crate) fn count(&self) -> usize
+        ensures { result ≡ length self.now.variables.items }
+    {
         self.variables.len()
     }
 
