@@ -7,6 +7,7 @@ use crate::marks::Marks;
 use catalog::Catalog;
 
 // More turns than filtering can take: each of 2,048 values goes out at most once, and each time fewer than 128 constraints begin to wait.
+// A bound, and no `while let`: that none waits in the end is not proved here, and every call is to end.
 const TURNS: usize = 128 * 2049;
 
 impl<C: Catalog> Solver<'_, C> {

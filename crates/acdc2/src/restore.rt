@@ -10,6 +10,7 @@ use catalog::Catalog;
 use std::alloc::{AllocError, Global};
 
 // More turns than restoring can take: each of 2,048 values comes back at most once, and each set that waits has one of them.
+// A bound, and no `while let`: that none waits in the end is not proved here, and every call is to end.
 const TURNS: usize = 2049;
 
 // Values of one variable that came back together, one or more, and the least time at which one of them had gone out.
