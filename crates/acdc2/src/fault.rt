@@ -12,7 +12,7 @@ pub enum Fault {
     Memory,
 }
 
-// The conversions are written out: a derived one has no contract, and `retract`'s says what a refusal leaves.
+// The conversions are written out: a derived one has no contract, and `retract`'s tells the cause of a refusal.
 impl From<Refusal> for Fault {
     ghost from_gives = { λ refusal fault. fault ≡ Refused refusal };
 

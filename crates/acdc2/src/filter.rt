@@ -1,10 +1,13 @@
 // Filtering: AC-3, keeping for each value that it puts out the neighbour and the time.
+ghost use Rattle.std.specs.Prelude.{◌≡◌};
+
 use crate::Solver;
 use crate::arc::Arc;
 use crate::marks::Marks;
 use catalog::Catalog;
 
 // More turns than filtering can take: each of 2,048 values goes out at most once, and each time fewer than 128 constraints begin to wait.
+// A bound, and no `while let`: that none waits in the end is not proved here, and every call is to end.
 const TURNS: usize = 128 * 2049;
 
 impl<C: Catalog> Solver<'_, C> {
@@ -21,11 +24,13 @@ impl<C: Catalog> Solver<'_, C> {
     }
 
     // Puts out each value of the near variable that has no support in the far one's domain, and says whether there was any.
-    fn filter_arc(&mut self, arc: Arc) -> bool {
+    fn filter_arc(&mut self, arc: Arc) -> bool
+        ensures { self.new.state.present ≡ self.old.state.present }
+    {
         let near = self.state.domain(arc.near);
         let far = self.state.domain(arc.far);
-        for d in (0..64).filter(|d| bits::has(near, *d)) {
-            if !arc.supported(self.catalog, d, far) {
+        for d in 0..64 {
+            if bits::has(near, d) && !arc.supported(self.catalog, d, far) {
                 self.state.put_out(arc.near, d, arc.far);
             }
         }
@@ -33,14 +38,18 @@ impl<C: Catalog> Solver<'_, C> {
     }
 
     // Filters the near variable, and if it lost a value lets the other constraints at it wait.
-    fn revise(&mut self, arc: Arc, waiting: &mut Marks) {
+    fn revise(&mut self, arc: Arc, waiting: &mut Marks)
+        ensures { self.new.state.present ≡ self.old.state.present }
+    {
         if self.filter_arc(arc) {
             self.schedule(arc.near, Some(arc.constraint), waiting);
         }
     }
 
     // Revises the constraints that wait, and those that begin to wait on the way, until none does.
-    pub(crate) fn filter(&mut self, mut waiting: Marks) {
+    pub(crate) fn filter(&mut self, mut waiting: Marks)
+        ensures { self.new.state.present ≡ self.old.state.present }
+    {
         for _ in 0..TURNS {
             let Some(p) = waiting.take() else {
                 return;

@@ -1,8 +1,8 @@
 // A second solver, for trials against the first: the published algorithm AC|DC-2, arc by arc, with a neighbouring variable and a time as the
 // justification of each value that is out. It shares no code with the engine but the catalogs, the sets of bits and the names of the causes of refusal.
 //
-// Proved of it: that it is safe, that every call ends, and that a refused call leaves it as it was. That its domains are the largest is only tried, by
-// comparison.
+// Proved of it: that it is safe, that every call ends, which calls are refused and by which cause, that a refused call leaves it as it was, and that one
+// that is done puts in or takes out its constraint and no other. That its domains are the largest is only tried, by comparison.
 //
 // The algorithm is published for one constraint on each pair of variables. Here several may join one pair, and each is judged by itself:
 // filtering asks for a support under each constraint alone, so the domains are those of all constraints and not of their conjunction. A
@@ -11,8 +11,10 @@
 // that did put it out is among them. The filtering at the end puts the surplus out again.
 #![tactic(auto)]
 
-ghost use Rattle.std.specs.Prelude.{◌≡◌, Err, OnErr};
+ghost use Rattle.std.specs.Prelude.{◌≡◌, Err, IfOk, OnErr, false, slice_set, true};
+ghost use Rattle.std.specs.Result.{result_err};
 ghost use Rattle.refusal.specs.declared.Refusal.{Refusal};
+ghost use Rattle.acdc2.specs.Causes.{add_cause, refused_by, retract_cause};
 ghost use Rattle.acdc2.specs.declared.fault.Fault.TheVariants.{Refused};
 
 use catalog::Catalog;
@@ -48,7 +50,9 @@ impl<'a, C: Catalog> Solver<'a, C> {
 
     // Adds the constraint `p`. Refused, and nothing is done, where there is none, where an end is not one of the variables, or where it is in.
     pub fn add(&mut self, p: usize) -> Result<(), Refusal>
-        ensures { OnErr result (self.new.state ≡ self.old.state) }
+        ensures refused { result_err result ≡ add_cause (C.Catalog.meaning self.old.catalog.now) self.old.state p }
+        ensures present { IfOk result (λ _. self.new.state.present.marks ≡ slice_set self.old.state.present.marks p true) }
+        ensures unchanged { OnErr result (self.new.state ≡ self.old.state) }
     {
         let (a, b) = self.catalog.ends(p).ok_or(Refusal::NoSuchConstraint)?;
         if a >= self.state.count() || b >= self.state.count() {
@@ -65,7 +69,9 @@ impl<'a, C: Catalog> Solver<'a, C> {
     // Retracts the constraint `p`. Refused, and nothing is done, where there is none or where it is not in. Without memory the solver is left half-way:
     // open another.
     pub fn retract(&mut self, heap: Global, p: usize) -> Result<(), Fault>
-        ensures { (refusal : Refusal) → result ≡ Err (Refused refusal) → self.new.state ≡ self.old.state }
+        ensures refused { refused_by result ≡ retract_cause (C.Catalog.meaning self.old.catalog.now) self.old.state p }
+        ensures present { IfOk result (λ _. self.new.state.present.marks ≡ slice_set self.old.state.present.marks p false) }
+        ensures unchanged { (refusal : Refusal) → result ≡ Err (Refused refusal) → self.new.state ≡ self.old.state }
     {
         let ends = self.catalog.ends(p).ok_or(Refusal::NoSuchConstraint)?;
         if !self.state.present.has(p) {

@@ -1,4 +1,5 @@
 // Sets of constraints: those that are in, and those that wait for revision.
+ghost use Rattle.std.specs.Prelude.{◌≡◌, false, slice_index_or, slice_set};
 
 // One mark for each constraint, and no list of those marked, since adding a constraint is not to fail for want of memory.
 // The trials' `Book` has the same of its own: it judges this solver, and a slip in a shared type would be the same on both sides.
@@ -20,13 +21,17 @@ impl Marks {
         marks
     }
 
-    pub(crate) fn has(&self, p: usize) -> bool {
+    pub(crate) fn has(&self, p: usize) -> bool
+        ensures { result ≡ slice_index_or self.now.marks p false }
+    {
         self.marks.get(p).copied().unwrap_or(false)
     }
 
-    pub(crate) fn set(&mut self, p: usize, marked: bool) {
-        if let Some(place) = self.marks.get_mut(p) {
-            *place = marked;
+    pub(crate) fn set(&mut self, p: usize, marked: bool)
+        ensures { self.new.marks ≡ slice_set self.old.marks p marked }
+    {
+        if p < 128 {
+            self.marks[p] = marked;
         }
     }
 

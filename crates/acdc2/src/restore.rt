@@ -1,5 +1,7 @@
 // Retraction: values that may have gone out because of the constraint are put back, then those that may have gone out because of these, and
 // then the surplus is filtered out again.
+ghost use Rattle.std.specs.Prelude.{◌≡◌, IfOk, false, slice_set};
+
 use crate::Solver;
 use crate::arc::Arc;
 use crate::marks::Marks;
@@ -8,6 +10,7 @@ use catalog::Catalog;
 use std::alloc::{AllocError, Global};
 
 // More turns than restoring can take: each of 2,048 values comes back at most once, and each set that waits has one of them.
+// A bound, and no `while let`: that none waits in the end is not proved here, and every call is to end.
 const TURNS: usize = 2049;
 
 // Values of one variable that came back together, one or more, and the least time at which one of them had gone out.
@@ -45,6 +48,7 @@ fn put_back<F: Fn(usize, Justification) -> bool>(
     test: F,
 ) -> Option<Restored>
     requires { F.IsAlwaysCallable test }
+    ensures { state.new.present ≡ state.old.present }
 {
     let mut restored: Option<Restored> = None;
     for d in 0..64 {
@@ -63,13 +67,17 @@ fn put_back<F: Fn(usize, Justification) -> bool>(
 
 impl<C: Catalog> Solver<'_, C> {
     // Puts back every value of `u` that went out since it lost all supports in `v`.
-    fn initialize(&mut self, u: usize, v: usize) -> Option<Restored> {
+    fn initialize(&mut self, u: usize, v: usize) -> Option<Restored>
+        ensures { self.new.state.present ≡ self.old.state.present }
+    {
         put_back(&mut self.state, u, |_, why| why.neighbour == v)
     }
 
     // `from` holds values of the arc's far variable. Puts back every value of the near one that went out because of the far one, later than the first
     // of `from` did, and that has a support in `from`.
-    fn follow(&mut self, arc: Arc, from: Restored) -> Option<Restored> {
+    fn follow(&mut self, arc: Arc, from: Restored) -> Option<Restored>
+        ensures { self.new.state.present ≡ self.old.state.present }
+    {
         let catalog = self.catalog;
         put_back(&mut self.state, arc.near, |d, why| {
             why.neighbour == arc.far
@@ -79,11 +87,13 @@ impl<C: Catalog> Solver<'_, C> {
     }
 
     // Follows the restored values along each constraint at their variable.
-    fn spread(&mut self, from: Restored, waiting: &mut Vec<Restored>) -> Result<(), AllocError> {
-        let catalog = self.catalog;
-        let arcs = (0..128).filter_map(|p| Arc::toward(catalog, p, from.variable));
-        for arc in arcs {
-            if self.state.present.has(arc.constraint) {
+    fn spread(&mut self, from: Restored, waiting: &mut Vec<Restored>) -> Result<(), AllocError>
+        ensures { self.new.state.present ≡ self.old.state.present }
+    {
+        for p in 0..128 {
+            if let Some(arc) = Arc::toward(self.catalog, p, from.variable)
+                && self.state.present.has(p)
+            {
                 waiting.extend(self.follow(arc, from))?;
             }
         }
@@ -91,7 +101,9 @@ impl<C: Catalog> Solver<'_, C> {
     }
 
     // Follows every set that waits, and gives the constraints at the variables that got values back.
-    fn restore(&mut self, waiting: &mut Vec<Restored>) -> Result<Marks, AllocError> {
+    fn restore(&mut self, waiting: &mut Vec<Restored>) -> Result<Marks, AllocError>
+        ensures { self.new.state.present ≡ self.old.state.present }
+    {
         let mut revise = Marks::none();
         for _ in 0..TURNS {
             let Some(from) = waiting.pop() else {
@@ -103,13 +115,16 @@ impl<C: Catalog> Solver<'_, C> {
         Ok(revise)
     }
 
-    // Takes out the constraint `p`, which is in, between `u` and `v`.
+    // Takes out the constraint `p`, which is in, with these ends.
     pub(crate) fn take_out(
         &mut self,
         heap: Global,
         p: usize,
-        (u, v): (usize, usize),
-    ) -> Result<(), AllocError> {
+        ends: (usize, usize),
+    ) -> Result<(), AllocError>
+        ensures { IfOk result (λ _. self.new.state.present.marks ≡ slice_set self.old.state.present.marks p false) }
+    {
+        let (u, v) = ends;
         let mut waiting = Vec::new(heap);
         waiting.extend(self.initialize(u, v))?;
         waiting.extend(self.initialize(v, u))?;

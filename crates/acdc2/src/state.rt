@@ -1,4 +1,6 @@
 // What the solver keeps of its variables and constraints.
+ghost use Rattle.std.specs.Prelude.{◌≡◌, length};
+
 use crate::marks::Marks;
 use std::alloc::{AllocError, Global};
 
@@ -49,7 +51,9 @@ impl State {
     }
 
     // How many variables there are.
-    pub(crate) fn count(&self) -> usize {
+    pub(crate) fn count(&self) -> usize
+        ensures { result ≡ length self.now.variables.items }
+    {
         self.variables.len()
     }
 
@@ -64,7 +68,9 @@ impl State {
     }
 
     // Puts the value `d` of `u` out, since it lost all supports in `v`, and moves the clock on.
-    pub(crate) fn put_out(&mut self, u: usize, d: usize, v: usize) {
+    pub(crate) fn put_out(&mut self, u: usize, d: usize, v: usize)
+        ensures { self.new.present ≡ self.old.present }
+    {
         let why = Justification {
             neighbour: v,
             time: self.clock,
@@ -79,7 +85,9 @@ impl State {
     }
 
     // Shows the value `d` of `u` again.
-    pub(crate) fn put_back(&mut self, u: usize, d: usize) {
+    pub(crate) fn put_back(&mut self, u: usize, d: usize)
+        ensures { self.new.present ≡ self.old.present }
+    {
         if let Some(variable) = self.variables.get_mut(u) {
             variable.domain = bits::with(variable.domain, d);
             if let Some(place) = variable.why.get_mut(d) {

@@ -48,8 +48,7 @@ impl Pairs {
     }
 }
 
-// An engine with its two rooms. They are arrays here and in a run, in the trials lists of full length, in the cases of a network lists of any length with
-// marks: one place for all would be a struct with a part for each.
+// An engine with its two rooms: two literals, as in a run. A struct of both would be taken apart at each call, since the calls take them one by one.
 #[derive(Drop)]
 struct Bench {
     engine: Engine,

@@ -1,8 +1,8 @@
 // One case: what the call gives, on a line for each variable.
 ghost use Rattle.std.specs.Prelude.{◌≡◌, count_by, nat_eq};
 
+use bits::Values;
 use catalog::Catalog;
-use run_text::domain_line;
 use scratch::largest_domains;
 use std::io;
 use wiped::wiped_out;
@@ -17,10 +17,12 @@ fn count_of(value: u64, list: &[u64]) -> usize
     list.iter().filter(|x| **x == value).count()
 }
 
-// A line for each domain, and one that names the wiped-out variable.
+// A line for each domain, and one that names the wiped-out variable. The type prints itself, and no `run_text::domain_line`: that makes the same text as a
+// string on the heap, and this program uses none.
 fn print_domains(rt: &HostRuntime, domains: &[u64]) -> io::Result<()> {
     for (i, domain) in domains.iter().enumerate() {
-        rt.println(domain_line(rt.alloc(), i, *domain)?)?;
+        let values = Values(*domain);
+        println!(rt; "at {i}{values}")?;
     }
     match wiped_out(domains) {
         Some(i) => println!(rt; "wiped out {i}"),
@@ -29,6 +31,7 @@ fn print_domains(rt: &HostRuntime, domains: &[u64]) -> io::Result<()> {
 }
 
 // Prints the title, then the largest domains or the refusal's number, and how many entries of the result list the call left as they were.
+// A case is its call: a title, and the arguments of `largest_domains` as that takes them, its result list by the length. A struct would only be these again.
 pub fn show<C: Catalog>(
     rt: &HostRuntime,
     title: &str,

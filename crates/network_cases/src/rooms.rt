@@ -20,7 +20,8 @@ pub const ENOUGH: Lengths = Lengths {
     returning: 2048,
 };
 
-// room for constraints that wait, and for values that come back
+// Room for constraints that wait, and for values that come back. A struct and lists, and no two arrays: lengths differ from case to case, and it is asked
+// whether the entries stand as they were lent.
 #[derive(Drop)]
 pub struct Rooms {
     pub waiting: Vec<u8>,

@@ -10,7 +10,8 @@ use network_law::Change;
 use refusal::Refusal;
 use std::alloc::{AllocError, Global};
 
-// A network, and the rooms that it is lent at each change.
+// A network, and the rooms that it is lent at each change: two literals, in lists. With arrays here the borrow checker has no rule yet for the call of
+// `tell` in `Trial::open`.
 #[derive(Drop)]
 pub struct First<'a, C> {
     network: Network<Lent<'a, C>>,

@@ -62,7 +62,8 @@ impl<C: Catalog> Judge<'_, C> {
     pub fn resting_on(&self, heap: Global, p: Option<usize>) -> Result<Resting, AllocError> {
         let values = vec![in heap; 0; self.book.sizes.len()]?;
         let mut resting = Resting { values };
-        // each sweep but the last notes one of at most 2,048 values
+        // Each sweep but the last notes one of at most 2,048 values. A bound, and no `while`: that a sweep notes none in the end is not proved here, and
+        // the call is to end.
         for _ in 0..2049 {
             if !self.sweep(&mut resting, p) {
                 break;

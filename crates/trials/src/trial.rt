@@ -75,14 +75,12 @@ struct Parties<'a, C> {
 // wiped-out variable?
 fn check_answer(
     answer: Result<Change, Refusal>,
-    due: Result<(), Refusal>,
-    values: u32,
-    wiped: Option<usize>,
+    due: Result<Change, Refusal>,
 ) -> Result<(), Trouble> {
     match (answer, due) {
-        (Ok(change), Ok(())) if change.values != values => Err(Trouble::Count),
-        (Ok(change), Ok(())) if change.wiped != wiped => Err(Trouble::WipedOut),
-        (Ok(_), Ok(())) => Ok(()),
+        (Ok(change), Ok(other)) if change.values != other.values => Err(Trouble::Count),
+        (Ok(change), Ok(other)) if change.wiped != other.wiped => Err(Trouble::WipedOut),
+        (Ok(_), Ok(_)) => Ok(()),
         (Err(cause), Err(other)) if cause == other => Ok(()),
         _ => Err(Trouble::Cause),
     }
@@ -221,8 +219,11 @@ impl<'a, C: Catalog> Trial<'a, C> {
             parties.book.note(call);
         }
         let domains = expected::domains(heap, self.catalog, &parties.book)?;
-        let values = expected::differing(&parties.domains, &domains);
-        check_answer(answer, due, values, wiped_out(&domains))?;
+        let change = Change {
+            values: expected::differing(&parties.domains, &domains),
+            wiped: wiped_out(&domains),
+        };
+        check_answer(answer, due.map(|()| change))?;
         parties.domains = domains;
         parties.told = told;
         self.check(parties)
