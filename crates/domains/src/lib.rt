@@ -25,8 +25,8 @@ pub struct Domains {
 }
 
 // The variables' sizes, and the constraints by their index: whether each is in, its two ends, and its rows of supports on the sides of both.
-// `rows[2 * p][x]` has bit y, and `rows[2 * p + 1][y]` has bit x, where p lets x of its left end stand beside y of its right end: an arc has one number for
-// its rows, where a pair of sides for each constraint would want two. Presence, ends and rows stand apart, since each is used for all constraints by itself:
+// `rows[2 * p][x]` has bit y, and `rows[2 * p + 1][y]` has bit x, where p lets x of its left end stand beside y of its right end: of three
+// levels of arrays, with a pair of sides for each constraint, the type would have to say three lengths where it says two. Presence, ends and rows stand apart, since each is used for all constraints by itself:
 // an opening takes every one out in one write and leaves ends and rows, which of a struct for each would be a loop with a proof of its own. Ends that were
 // never given are twice 0, which given ones never are: of `Option<Ends>` every reader would take out what is there wherever a constraint is in. Only what
 // is true of any arrays of these types stands in the type: what else is asked of constraints is `Shape`, since anyone may make such a value.

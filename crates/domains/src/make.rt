@@ -4,6 +4,7 @@ ghost use Rattle.bits.specs.Bits.{domains_of, has_bit};
 ghost use Rattle.domains.specs.Make.{no_constraints, no_domains};
 
 use crate::{Constraints, Domains, Ends, Justification};
+use std::array;
 
 // No variables, and no constraint in.
 pub fn no_constraints() -> Constraints
@@ -28,20 +29,27 @@ pub fn no_domains() -> Domains
     }
 }
 
+// The size of the variable i, at most 64, and 0 where none is given.
+fn size_at(sizes: &[u8], i: usize) -> u8
+    ensures { result ≡ min 64 (slice_index sizes.now i) }
+{
+    sizes.get(i).map_or(0, |size| (*size).min(64))
+}
+
+// The sizes of 32 variables.
+fn all_sizes(sizes: &[u8]) -> [u8; 32]
+    ensures long { length result ≡ 32 }
+    ensures each { (i : ℕ) → i < 32 → slice_index result i ≡ min 64 (slice_index sizes.now i) }
+{
+    array::from_fn(|i| size_at(sizes, i))
+}
+
 // The first 32 sizes, each at most 64, and 0 where there are fewer.
-// No `array::from_fn`: it was tried, and its contract does not say that the captured slice is the same at each call.
 pub fn capped(sizes: &[u8]) -> [u8; 32]
     ensures long { length result ≡ 32 }
     ensures sizes { (i : ℕ) → slice_index result i ≡ (if nat_lt i 32 then min 64 (slice_index sizes.now i) else 0) }
 {
-    let n = sizes.len().min(32);
-    let mut all = [0; 32];
-    all[..n].copy_from_slice(&sizes[..n]);
-    all.map(
-        |size: u8| -> u8
-            ensures { result ≡ min 64 size }
-        { size.min(64) },
-    )
+    all_sizes(sizes)
 }
 
 // Every value below the sizes.
