@@ -8,6 +8,7 @@ use Rattle.bits.specs.Bits.{bit_at, has_bit}
 use Rattle.bits.proofs.Bitwise.{bit_of_zero, some_bit}
 use Rattle.domains.specs.declared.Constraints.{Constraints}
 use Rattle.domains.specs.declared.Domains.{Domains}
+use Rattle.domains.specs.declared.Ends.{Ends}
 use Rattle.domains.specs.Model.{arcs_of, is_present, shown, total}
 use Rattle.domains.specs.Sound.{Shape, Sound}
 use Rattle.domains.specs.Stands.{Stands}
@@ -64,7 +65,7 @@ fault_none true false true true false = refl
 can_or_fault : (c : Constraints) (p left right : ℕ) → can_load c p left right ≡ is_none (load_fault c p left right)
 can_or_fault c p left right = fault_none (ltb p 128) (is_present c p) (ltb left 32) (ltb right 32) (eqb left right)
 
-pub loadable : (c : Constraints) (p left right : ℕ) → None ≡ load_fault c p left right → Loadable c p left right
+loadable : (c : Constraints) (p left right : ℕ) → None ≡ load_fault c p left right → Loadable c p left right
 loadable c p left right none =
     let e : true ≡ can_load c p left right = ap is_none none ∙ sym (can_or_fault c p left right) in
     let a = and_parts (ltb p 128) _ (sym e) in
@@ -78,6 +79,11 @@ loadable c p left right none =
       right_low = ltb-true right 32 g.0;
       apart = eqb-false left right (not-true (eqb left right) g.1);
     }
+
+-- and ends that are these may be given
+pub ends_loadable : (c : Constraints) (p left right : ℕ) (ends : Ends) → None ≡ load_fault c p left right → (ends.left ≡ left) × (ends.right ≡ right) → Loadable c p ends.left ends.right
+ends_loadable c p left right ends none same =
+    loadable c p ends.left ends.right (none ∙ ap (λ l. load_fault c p l right) (sym same.0) ∙ ap (load_fault c p ends.left) (sym same.1))
 
 -- ---- asking
 

@@ -1,5 +1,4 @@
-// What rests on a constraint comes back. Constraints, domains and queue are three parameters, since a struct that borrows the queue did not prove
-// (propagate.rt says why).
+// What rests on a constraint comes back. Constraints, domains and queue are three parameters, as propagate.rt says of its own.
 ghost use Rattle.std.specs.Prelude.{◌≡◌, ℕ, ◌+◌, ◌<◌, ◌≤◌, true, false, not, ◌&&◌, [], ◌∷◌, ◌++◌, ◌==◌};
 ghost use Rattle.arcs.specs.Family.{Inside};
 ghost use Rattle.justify.specs.Changes.{PutBack, Released};

@@ -26,8 +26,8 @@ impl Arc {
 }
 
 impl<C: Catalog> Request<'_, C> {
-    // Keeps the constraint `p` both ways, unless it is kept already. Its arcs are entries 2 * p and 2 * p + 1 of one list, and no pair, since a pass goes
-    // over all arcs alike, and a value's support is told by its arc's number.
+    // Keeps the constraint `p` both ways, unless it is kept already. Its arcs are entries 2 * p and 2 * p + 1 of one list, and no pair: a pass
+    // walks all arcs alike, in one loop, and what it says of an arc it says by the place.
     fn keep(&self, p: usize, arcs: &mut [Option<Arc>; 256])
         requires { constraint_refusal (C.Catalog.meaning self.now.catalog.now) (length self.now.sizes.now) p ≡ None }
         ensures { Adds (C.Catalog.meaning self.now.catalog.now) self.now.sizes.now p arcs.old arcs.new }

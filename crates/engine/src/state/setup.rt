@@ -1,4 +1,4 @@
-ghost use Rattle.std.specs.Prelude.{◌≡◌, ℕ, ◌+◌, ◌<◌, ◌≤◌, true, false, ◌⊎◌, length, MatchBool, is_ok, slice_index};
+ghost use Rattle.std.specs.Prelude.{◌≡◌, ℕ, ◌+◌, ◌<◌, ◌≤◌, true, false, ◌⊎◌, length, IfOk, MatchBool, is_ok, slice_index};
 ghost use Rattle.std.specs.Result.{result_err};
 ghost use Rattle.domains.specs.Make.{no_constraints, no_domains};
 ghost use Rattle.domains.specs.Stands.{Loaded};
@@ -9,14 +9,15 @@ use super::Engine;
 use crate::fault::LoadFault;
 use domains::{Constraints, Ends, capped, full, no_constraints, no_domains};
 
-// May the constraint be given these ends? They are two numbers, here and in `write`, as the public `load` takes them.
+// May the constraint be given these ends? They are two numbers still, which only the test shows to be ends.
 fn check_load(
     c: &Constraints,
     constraint: usize,
     left: usize,
     right: usize,
-) -> Result<(), LoadFault>
-    ensures { result_err result ≡ load_fault c.now constraint left right }
+) -> Result<Ends, LoadFault>
+    ensures fault { result_err result ≡ load_fault c.now constraint left right }
+    ensures ends { IfOk result (λ ends. (ends.left ≡ left) × (ends.right ≡ right)) }
 {
     if constraint >= 128 {
         return Err(LoadFault::NoSuchConstraint);
@@ -30,21 +31,21 @@ fn check_load(
     if left == right {
         return Err(LoadFault::SameEnds);
     }
-    Ok(())
+    Ok(Ends {
+        left: left as u8,
+        right: right as u8,
+    })
 }
 
 // Gives a constraint that is not in its ends and its rows.
-fn write(c: &mut Constraints, constraint: usize, left: usize, right: usize, rows: &[u64; 64])
-    requires loadable { Loadable c.old constraint left right }
+fn write(c: &mut Constraints, constraint: usize, ends: Ends, rows: &[u64; 64])
+    requires loadable { Loadable c.old constraint ends.left ends.right }
     requires shape { Shape c.old }
-    ensures loaded { Loaded c.old c.new constraint left right rows.now }
+    ensures loaded { Loaded c.old c.new constraint ends.left ends.right rows.now }
     ensures shape { Shape c.new }
 {
     let turned = supports::turned(rows);
-    c.ends[constraint] = Ends {
-        left: left as u8,
-        right: right as u8,
-    };
+    c.ends[constraint] = ends;
     c.rows[2 * constraint] = *rows;
     c.rows[2 * constraint + 1] = turned;
 }
@@ -86,8 +87,8 @@ impl Engine {
         ensures loaded { MatchBool (is_ok result) (Loaded self.old.constraints self.new.constraints constraint left right rows.now) (self.new.constraints ≡ self.old.constraints) }
         ensures domains { self.new.domains ≡ self.old.domains }
     {
-        check_load(&self.constraints, constraint, left, right)?;
-        write(&mut self.constraints, constraint, left, right, rows);
+        let ends = check_load(&self.constraints, constraint, left, right)?;
+        write(&mut self.constraints, constraint, ends, rows);
         Ok(())
     }
 }

@@ -1,5 +1,5 @@
-// Constraints go in and out. The two rooms are two parameters, here and where their lengths are checked, since the public calls take them so, and may be given
-// rooms of any length that lie anywhere; the engine's add takes the first alone. That the catalog stays is said by each call: it is what the call leaves, and
+// Constraints go in and out. The two rooms are two parameters, since the public calls take them so, and the engine's calls, of which
+// adding takes the first alone. That the catalog stays is said by each call: it is what the call leaves, and
 // no fact of a value that a type could hold.
 ghost use Rattle.std.specs.Prelude.{◌≡◌, false, length, IfOk, MatchResult, OnErr};
 ghost use Rattle.arcs.specs.WipedOut.{WipedOut};
@@ -12,6 +12,7 @@ ghost use Rattle.network.specs.Served.{Serves, Stands};
 ghost use Rattle.network_model.specs.Performs.{answer_by, rooms_of};
 
 use super::Network;
+use super::checks::Lengths;
 use catalog::Catalog;
 use domains::Returning;
 use network_law::Change;
@@ -74,7 +75,11 @@ impl<C: Catalog> Network<C> {
         ensures refused { Stands C.Catalog.meaning self.old → OnErr result (self.new.state ≡ self.old.state) }
         ensures unlent { Stands C.Catalog.meaning self.old → OnErr result (waiting.new ≡ waiting.old) }
     {
-        let (left, right) = self.check_add(constraint, waiting, returning)?;
+        let lengths = Lengths {
+            waiting: waiting.len(),
+            returning: returning.len(),
+        };
+        let (left, right) = self.check_add(constraint, lengths)?;
         self.know(constraint, left, right);
         self.put_in(constraint, waiting)
     }
@@ -94,7 +99,11 @@ impl<C: Catalog> Network<C> {
         ensures unlent { Stands C.Catalog.meaning self.old → OnErr result (waiting.new ≡ waiting.old) }
         ensures unlent_returning { Stands C.Catalog.meaning self.old → OnErr result (returning.new ≡ returning.old) }
     {
-        self.check_retract(constraint, waiting, returning)?;
+        let lengths = Lengths {
+            waiting: waiting.len(),
+            returning: returning.len(),
+        };
+        self.check_retract(constraint, lengths)?;
         self.take_out(constraint, waiting, returning)
     }
 }

@@ -2,20 +2,27 @@
 ghost use Rattle.std.specs.Prelude.{◌≡◌, IfOk, Some};
 ghost use Rattle.catalog.specs.Meaning.{ends_of};
 ghost use Rattle.network_law.specs.Refusals.{lent_refusal, spent};
-ghost use Rattle.network_model.specs.Performs.{add_cause, retract_cause, rooms_of, value_cause};
+ghost use Rattle.network_model.specs.Performs.{add_cause, retract_cause, value_cause};
 ghost use Rattle.std.specs.Result.{result_err};
 
 use super::Network;
 use catalog::Catalog;
-use domains::{LAST_TIME, Returning};
+use domains::LAST_TIME;
 use refusal::Refusal;
 use refusal::checks::check_constraint;
 
+// How long the lent rooms are.
+#[derive(Clone, Copy)]
+pub(super) struct Lengths {
+    pub waiting: usize,
+    pub returning: usize,
+}
+
 // Is there room and time for a change?
-fn check_lent(waiting: &[u8], returning: &[Returning], clock: u32) -> Result<(), Refusal>
-    ensures { result_err result ≡ lent_refusal (rooms_of waiting.now returning.now) (spent clock) }
+fn check_lent(lengths: Lengths, clock: u32) -> Result<(), Refusal>
+    ensures { result_err result ≡ lent_refusal (record { waiting = lengths.waiting; returning = lengths.returning }) (spent clock) }
 {
-    if waiting.len() < 128 || returning.len() < 2048 {
+    if lengths.waiting < 128 || lengths.returning < 2048 {
         return Err(Refusal::ShortBuffer);
     }
     if clock > LAST_TIME {
@@ -29,28 +36,22 @@ impl<C: Catalog> Network<C> {
     pub(super) fn check_add(
         &self,
         constraint: usize,
-        waiting: &[u8],
-        returning: &[Returning],
+        lengths: Lengths,
     ) -> Result<(usize, usize), Refusal>
-        ensures refused { result_err result ≡ add_cause (C.Catalog.meaning self.now.catalog) self.now.state constraint (rooms_of waiting.now returning.now) }
+        ensures refused { result_err result ≡ add_cause (C.Catalog.meaning self.now.catalog) self.now.state constraint (record { waiting = lengths.waiting; returning = lengths.returning }) }
         ensures ends { IfOk result (λ e. Some e ≡ ends_of (C.Catalog.meaning self.now.catalog) constraint) }
     {
         let ends = check_constraint(&self.catalog, self.state.variables, constraint)?;
         if self.state.engine.is_in(constraint) {
             return Err(Refusal::AlreadyIn);
         }
-        check_lent(waiting, returning, self.state.engine.clock())?;
+        check_lent(lengths, self.state.engine.clock())?;
         Ok(ends)
     }
 
     // May the constraint be retracted?
-    pub(super) fn check_retract(
-        &self,
-        constraint: usize,
-        waiting: &[u8],
-        returning: &[Returning],
-    ) -> Result<(), Refusal>
-        ensures { result_err result ≡ retract_cause (C.Catalog.meaning self.now.catalog) self.now.state constraint (rooms_of waiting.now returning.now) }
+    pub(super) fn check_retract(&self, constraint: usize, lengths: Lengths) -> Result<(), Refusal>
+        ensures { result_err result ≡ retract_cause (C.Catalog.meaning self.now.catalog) self.now.state constraint (record { waiting = lengths.waiting; returning = lengths.returning }) }
     {
         if constraint >= self.catalog.count() {
             return Err(Refusal::NoSuchConstraint);
@@ -58,7 +59,7 @@ impl<C: Catalog> Network<C> {
         if !self.state.engine.is_in(constraint) {
             return Err(Refusal::NotIn);
         }
-        check_lent(waiting, returning, self.state.engine.clock())
+        check_lent(lengths, self.state.engine.clock())
     }
 
     // Is it a value of one of the variables?

@@ -1,5 +1,5 @@
 // A network is made, and opened.
-ghost use Rattle.std.specs.Prelude.{◌≡◌, ℕ, None, slice_index};
+ghost use Rattle.std.specs.Prelude.{◌≡◌, ℕ, ◌<◌, ◌≤◌, None, length, slice_index};
 ghost use Rattle.network_law.specs.Calls.{opens};
 ghost use Rattle.network_law.specs.Moment.{Blank};
 ghost use Rattle.network_law.specs.declared.Answer.TheVariants.{Opened};
@@ -14,19 +14,31 @@ use engine::Engine;
 use network_model::State;
 use refusal::Refusal;
 use refusal::checks::check_sizes;
+use std::array;
 
-// These sizes as bytes, with 0 past their end.
+// The size of the variable i as a byte, 0 where there is no such variable.
+fn size_at(sizes: &[usize], i: usize) -> u8
+    ensures { slice_index sizes.now i ≤ 64 → result ≡ slice_index sizes.now i }
+{
+    sizes
+        .get(i)
+        .map_or(0, |size| u8::try_from(*size).unwrap_or(0))
+}
+
+// The sizes of 32 variables as bytes.
+fn all_sizes(sizes: &[usize]) -> [u8; 32]
+    ensures long { length result ≡ 32 }
+    ensures each { (i : ℕ) → i < 32 → slice_index sizes.now i ≤ 64 → slice_index result i ≡ slice_index sizes.now i }
+{
+    array::from_fn(|i| size_at(sizes, i))
+}
+
+// Sizes that are accepted as bytes, with 0 past their end.
 fn narrow(sizes: &[usize]) -> [u8; 32]
     requires { sizes_refusal sizes.now ≡ None }
     ensures { (i : ℕ) → slice_index result i ≡ slice_index sizes.now i }
 {
-    let mut all = [0; 32];
-    // By index: of `all.iter_mut().zip(sizes)` nothing is known after the loop, of `array::from_fn` not that the captured slice is the same at each call
-    // (both tried), and a copy and a `map`, as for sizes that are bytes, would have to know of each size that it fits one.
-    for (i, size) in sizes.iter().enumerate() {
-        all[i] = *size as u8;
-    }
-    all
+    all_sizes(sizes)
 }
 
 impl<C: Catalog> Network<C> {

@@ -13,9 +13,9 @@ returns c =
     let full : length c.args.rows.now ≡ 64 = search rules in
     let full_turned : length c.turned-turned.result ≡ 64 = search rules in
     record {
-      loaded = subst (λ k. Loaded n k p c.args.left c.args.right c.args.rows.now) same_data
-          (load_done n p c.args.left c.args.right c.args.rows.now c.turned-turned.result a.low c.requires.shape full full_turned (λ x y _ _. c.turned-turned.ensures x y));
+      loaded = subst (λ k. Loaded n k p c.args.ends.left c.args.ends.right c.args.rows.now) same_data
+          (load_done n p c.args.ends.left c.args.ends.right c.args.rows.now c.turned-turned.result a.low c.requires.shape full full_turned (λ x y _ _. c.turned-turned.ensures x y));
       shape = subst Shape same_data
-          (load_shape n p c.args.left c.args.right c.args.rows.now c.turned-turned.result a.low c.requires.shape full full_turned (λ x y _ _. c.turned-turned.ensures x y)
+          (load_shape n p c.args.ends.left c.args.ends.right c.args.rows.now c.turned-turned.result a.low c.requires.shape full full_turned (λ x y _ _. c.turned-turned.ensures x y)
           a.left_low a.right_low a.apart);
     }
