@@ -1,10 +1,7 @@
 -- What a queue keeps of its room over one call after another.
-use Rattle.std.proofs.Common.{drop, sym, refl, ap, ◌∙◌}
+use Rattle.std.proofs.Common.{drop, sym, ap, ◌∙◌}
 use Rattle.queue.specs.declared.fifo.Queue.{Queue}
 use Rattle.queue.specs.Waiting.{Kept}
-
-pub kept_refl : {T : Type 0} (q : Queue T) → Kept q q
-kept_refl q = record { same = refl; limit = refl; long = refl; rest = refl }
 
 pub kept_trans : {T : Type 0} (q q' q'' : Queue T) → Kept q q' → Kept q' q'' → Kept q q''
 kept_trans q q' q'' a b =
