@@ -3,6 +3,7 @@ use Rattle.std.proofs.Common.{◌≡◌, ℕ, ◌-◌, ◌*◌, ◌/◌, ◌%◌
 use lib.Bits.{bit_and, bit_or, bit_xor, and_mask}
 use Rattle.std.proofs.lemmas.Nat.{one_shl}
 use Rattle.std.proofs.lemmas.Bool.{eqb-true}
+use Rattle.std.proofs.lemmas.Bool.Decides.{nat_tests}
 use Rattle.bits.specs.Bits.{bit_at, has_bit}
 use Rattle.bits.proofs.Bitwise.{has_mask, bit_past}
 use Rattle.bits.proofs.Edits.{has_cleared, has_added}
@@ -25,8 +26,8 @@ pub code_cleared : (d x y : ℕ) → x < 64 → has_bit d x ≡ true → has_bit
 code_cleared d x y h e = ap (λ n. has_bit (bit_xor d n) y) (one_shl x 64 h) ∙ has_cleared d x y e
 
 -- `d | (1 << x)`
-pub code_added : (d x y : ℕ) → x < 64 → has_bit (bit_or d ((1 * 2 ^ x) % 2 ^ 64)) y ≡ (has_bit d y || eqb x y)
-code_added d x y h = ap (λ n. has_bit (bit_or d n) y) (one_shl x 64 h) ∙ has_added d x y
+pub code_added : (d x y : ℕ) → x < 64 → has_bit (bit_or d ((1 * 2 ^ x) % 2 ^ 64)) y ≡ (has_bit d y || (eqb x y && ltb x 64))
+code_added d x y h = ap (λ n. has_bit (bit_or d n) y) (one_shl x 64 h) ∙ has_added d x y ∙ ap (λ b. has_bit d y || b) (grind (arith, nat_tests))
 
 -- `(1 << n) - 1`
 pub code_below : (n y : ℕ) → n < 64 → has_bit ((1 * 2 ^ n) % 2 ^ 64 - 1) y ≡ ltb y n

@@ -6,6 +6,7 @@ use crate::has;
 use std::fmt;
 
 // The values of a set in order, each after a blank; ` none` for the empty set.
+// This is only how a set prints: the public functions take and give a set as a plain `u64`, and their signatures stay.
 #[derive(Clone, Copy)]
 pub struct Values(pub u64);
 

@@ -1,7 +1,8 @@
 -- What came through a `?` in the check, in plain words.
 use Rattle.std.proofs.Common.{◌≡◌, ℕ, suc, ◌+◌, ◌-◌, ◌≤◌, List, length, Ok, Err, Result, refl, sym, ap, ◌∙◌, subst, arith, Bor}
 use Rattle.std.proofs.lemmas.List.{length-drop}
-use Rattle.sheet_format.specs.declared.faults.RecordFault.{RecordFault}
+use Rattle.sheet_format.specs.declared.faults.Fault.{Fault}
+use Rattle.sheet_format.specs.declared.faults.RecordCause.{RecordCause}
 use Rattle.sheet_format.specs.Faults.{counted_result}
 use Rattle.sheet_format.specs.Reading.{Shown, taken, reading}
 use Rattle.sheet_format.specs.Verdict.{Tally, Verdict, goes, step, after_step, after_reading, walked}
@@ -23,7 +24,7 @@ left_shorter xs place s rest e =
     let k : length rest ≡ length xs - t.long = ap length t.leaves ∙ length-drop t.long xs in
     omega (arith, t.at_least, t.at_most)
 
-pub took_off : (w : Walk) (q : Result (Record × Bor (List ℕ)) RecordFault) (t : Record) (rest : Bor (List ℕ))
+pub took_off : (w : Walk) (q : Result (Record × Bor (List ℕ)) (Fault RecordCause)) (t : Record) (rest : Bor (List ℕ))
     → Answers w.place q (reading w.input.now w.place) → Ok (t, rest) ≡ counted_result q w.records → TookOff w t rest.now
 took_off w (Ok pair) t rest a e =
     let p : (t, rest) ≡ pair = cc in
@@ -37,7 +38,7 @@ pub record Admitted (w : Walk) (rest : List ℕ) (h : Tally) : Type 0 where
   pub moves : h.moves ≤ w.progress.moves + 1
   pub goes_on : (go : Onward) → after_record go w ≡ go rest (w.place + (length w.input.now - length rest)) (w.records + 1) h
 
-pub admitted : (w : Walk) (q : Result (Record × Bor (List ℕ)) RecordFault) (t : Record) (rest : Bor (List ℕ)) (h : Tally)
+pub admitted : (w : Walk) (q : Result (Record × Bor (List ℕ)) (Fault RecordCause)) (t : Record) (rest : Bor (List ℕ)) (h : Tally)
     → Answers w.place q (reading w.input.now w.place) → Ok (t, rest) ≡ counted_result q w.records
     → step w.progress (shown_by t) (w.place + (length w.input.now - length rest.now)) ≡ goes h → Admitted w rest.now h
 admitted w q t rest h a e f =

@@ -17,13 +17,6 @@ pub enum RecordCause {
     UnknownKind = 23,
 }
 
-// A record that cannot be taken off, and where it begins.
-#[derive(Clone, Copy, PartialEq, Eq, Debug)]
-pub struct RecordFault {
-    pub cause: RecordCause,
-    pub byte: u32,
-}
-
 // Why a sheet of whole records is refused.
 #[derive(Clone, Copy, PartialEq, Eq, Debug)]
 pub enum Cause {
@@ -40,12 +33,18 @@ pub enum Cause {
     Trailing = 41,
 }
 
-// A record that the format refuses, and where it begins.
+// A cause, and the byte at which the fault stands.
 #[derive(Clone, Copy, PartialEq, Eq, Debug)]
-pub struct FormatFault {
-    pub cause: Cause,
+pub struct Fault<C> {
+    pub cause: C,
     pub byte: u32,
 }
+
+// A record that cannot be taken off, and where it begins.
+pub type RecordFault = Fault<RecordCause>;
+
+// A record that the format refuses, and where it begins.
+pub type FormatFault = Fault<Cause>;
 
 // A fault, and how many records came before it.
 #[derive(Clone, Copy, PartialEq, Eq, Debug)]
@@ -61,6 +60,7 @@ pub enum SheetFault {
     Format(Counted<FormatFault>),
 }
 
+// The two `number` stay apart: each is one cast of its own enum, and a trait would have these same two bodies and one signature more.
 impl RecordCause {
     // The number by which the cause is known.
     pub fn number(self) -> u8

@@ -7,7 +7,7 @@ mod kinds;
 mod numbers;
 
 pub use faults::{
-    Cause, Counted, FormatFault, RecordCause, RecordFault, SheetFault, after_records,
+    Cause, Counted, Fault, FormatFault, RecordCause, RecordFault, SheetFault, after_records,
 };
 pub use found::{Summary, Variable};
 pub use kinds::Kind;

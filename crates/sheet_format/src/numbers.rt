@@ -14,6 +14,9 @@ fn bytes_at<const N: usize>(bytes: &[u8], k: usize) -> [u8; N]
     found
 }
 
+// The three readers keep their names and types, which are public: each is one call of the `from_le_bytes` of its own type, and that is
+// no method of a trait.
+
 // The number in the two bytes from the byte k on.
 pub fn word(bytes: &[u8], k: usize) -> u16
     ensures { result ≡ number2 bytes.now k }
