@@ -16,7 +16,7 @@ use Rattle.sheet_format.specs.Law.{Encodes, summary_of}
 use Rattle.sheet_law.proofs.NumberLaws.{two_back, number2-drop}
 use Rattle.sheet_law.proofs.Framing.{variables_long}
 use Rattle.sheet_moves.specs.declared.kinds.Move as code
-use Rattle.sheet_moves.specs.Moves.{said, move_at}
+use Rattle.sheet_moves.specs.Moves.{said, move_by_kind}
 
 -- stands where a list of moves has no more
 abbrev pub no_move : Move
@@ -27,14 +27,14 @@ pub no_add : (number : ℕ) → ((kind : Kind) → kind_number kind ≢ number) 
 no_add number none = ne_eqb number 5 (λ e. none Add (sym e))
 
 -- a move further on
-past : (front ys : List ℕ) (k j : ℕ) → j ≡ length front + k → move_at (front ++ ys) j ≡ move_at ys k
+past : (front ys : List ℕ) (k j : ℕ) → j ≡ length front + k → move_by_kind (front ++ ys) j ≡ move_by_kind ys k
 past front ys k j e =
     let at : (d i : ℕ) → i ≡ j + d → number2 (front ++ ys) i ≡ number2 ys (k + d) =
     λ d i h. ap (number2 (front ++ ys)) (let s : i ≡ length front + (k + d) = omega arith in s) ∙ sym (number2-drop (front ++ ys) (length front) (k + d)) ∙ ap (λ xs. number2 xs (k + d)) (drop_at front ys (length front) refl) in
     ap (λ a. cond (eqb a 5) (add (number2 (front ++ ys) (j + 4))) (retract (number2 (front ++ ys) (j + 4)))) (at 2 (j + 2) refl)
     ∙ ap (λ n. cond (eqb (number2 ys (k + 2)) 5) (add n) (retract n)) (at 4 (j + 4) refl)
 
-first : (m : Move) (rest : List ℕ) → ValidMove m → move_at (framed (move_record m) ++ rest) 0 ≡ m
+first : (m : Move) (rest : List ℕ) → ValidMove m → move_by_kind (framed (move_record m) ++ rest) 0 ≡ m
 first (add p) rest valid = ap add (two_back p rest valid)
 first (retract p) rest valid = ap retract (two_back p rest valid)
 
@@ -43,13 +43,13 @@ six (add p) = refl
 six (retract p) = refl
 
 -- the moves one after the other
-in_order : (ms : List Move) (rest : List ℕ) (i : ℕ) → i < length ms → AllByRecursion ValidMove ms → move_at (flat_map framed (map move_record ms) ++ rest) (6 * i) ≡ get_or ms i no_move
+in_order : (ms : List Move) (rest : List ℕ) (i : ℕ) → i < length ms → AllByRecursion ValidMove ms → move_by_kind (flat_map framed (map move_record ms) ++ rest) (6 * i) ≡ get_or ms i no_move
 in_order [] rest i l valid = absurd (omega arith)
 in_order (m ∷ ms) rest zero l valid =
-    ap (λ xs. move_at xs 0) (append_assoc (framed (move_record m)) (flat_map framed (map move_record ms)) rest) ∙ first m (flat_map framed (map move_record ms) ++ rest) valid.0
+    ap (λ xs. move_by_kind xs 0) (append_assoc (framed (move_record m)) (flat_map framed (map move_record ms)) rest) ∙ first m (flat_map framed (map move_record ms) ++ rest) valid.0
 in_order (m ∷ ms) rest (suc i) l valid =
     let k = six m in
-    ap (λ xs. move_at xs (6 * suc i)) (append_assoc (framed (move_record m)) (flat_map framed (map move_record ms)) rest)
+    ap (λ xs. move_by_kind xs (6 * suc i)) (append_assoc (framed (move_record m)) (flat_map framed (map move_record ms)) rest)
     ∙ past (framed (move_record m)) (flat_map framed (map move_record ms) ++ rest) (6 * i) (6 * suc i) (omega arith)
     ∙ in_order ms rest i (omega arith) valid.1
 
@@ -84,12 +84,12 @@ encode_cut s =
     ∙ sym (append_assoc h (v ++ c) (m ++ framed end_record))
 
 -- the moves of accepted bytes
-pub move_there : (xs : List ℕ) (found : Summary) → Encodes xs found → (i : ℕ) → i < found.moves → move_at xs (found.moves_at + 6 * i) ≡ get_or (decode xs).moves i no_move
+pub move_there : (xs : List ℕ) (found : Summary) → Encodes xs found → (i : ℕ) → i < found.moves → move_by_kind xs (found.moves_at + 6 * i) ≡ get_or (decode xs).moves i no_move
 move_there xs found e i l =
     let s : Sheet = decode xs in
     let many : found.moves ≡ length (decode xs).moves = ap (λ z. z.moves) e.sums_up in
     let place : found.moves_at ≡ length (before (decode xs)) = ap (λ z. z.moves_at) e.sums_up ∙ sym (before_long (decode xs)) in
-    ap (λ ys. move_at ys (found.moves_at + 6 * i)) (sym e.same ∙ encode_cut s)
+    ap (λ ys. move_by_kind ys (found.moves_at + 6 * i)) (sym e.same ∙ encode_cut s)
     ∙ past (before s) (flat_map framed (map move_record s.moves) ++ framed end_record) (6 * i) (found.moves_at + 6 * i) (omega arith)
     ∙ in_order s.moves (framed end_record) i (omega arith) e.valid.moves_valid
 
@@ -105,7 +105,7 @@ moves_fit xs found e =
 
 -- one move more
 pub moves_more : (xs : List ℕ) (found : Summary) (i : ℕ) (ms : List code.Move) (m : code.Move) → Encodes xs found → i < found.moves
-    → map said ms ≡ take i (decode xs).moves → said m ≡ move_at xs (found.moves_at + 6 * i) → map said (ms ++ (m ∷ [])) ≡ take (i + 1) (decode xs).moves
+    → map said ms ≡ take i (decode xs).moves → said m ≡ move_by_kind xs (found.moves_at + 6 * i) → map said (ms ++ (m ∷ [])) ≡ take (i + 1) (decode xs).moves
 moves_more xs found i ms m e h so here =
     let many : found.moves ≡ length (decode xs).moves = ap (λ z. z.moves) e.sums_up in
     map_push said ms m

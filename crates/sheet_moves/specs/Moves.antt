@@ -13,9 +13,9 @@ abbrev pub said : Move → value.Move
 said (Add p) = value.add p
 said (Retract p) = value.retract p
 
--- the move whose record begins at the byte k
-abbrev pub move_at : List ℕ → ℕ → value.Move
-move_at xs k = cond (number2 xs (k + 2) == 5) (value.add (number2 xs (k + 4))) (value.retract (number2 xs (k + 4)))
+-- the move whose record begins at the byte k, told by its kind
+abbrev pub move_by_kind : List ℕ → ℕ → value.Move
+move_by_kind xs k = cond (number2 xs (k + 2) == 5) (value.add (number2 xs (k + 4))) (value.retract (number2 xs (k + 4)))
 
 -- there are no moves: memory may be wanting at any time, and a sheet's fault is that of its verdict
 abbrev pub Refused : Verdict → MovesFault → Type 0

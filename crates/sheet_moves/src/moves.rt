@@ -2,7 +2,7 @@
 ghost use Rattle.std.specs.Prelude.{◌≡◌, ◌+◌, ◌<◌, map, length, MatchResult};
 ghost use Rattle.sheet_format.specs.Decoding.{decode};
 ghost use Rattle.sheet_format.specs.Verdict.{verdict};
-ghost use Rattle.sheet_moves.specs.Moves.{said, move_at, Refused as Turned};
+ghost use Rattle.sheet_moves.specs.Moves.{said, move_by_kind, Refused as Turned};
 ghost use Rattle.sheet_moves.specs.declared.moves.MovesFault.TheVariants.{Sheet, Memory};
 
 use crate::kinds::Move;
@@ -38,7 +38,7 @@ impl From<AllocError> for MovesFault {
 #[tactic(auto, using(crate::proofs::Places::no_add))]
 fn move_at(sheet: &[u8], k: usize) -> Move
     requires { k + 5 < length sheet.now }
-    ensures { said result ≡ move_at sheet.now k }
+    ensures { said result ≡ move_by_kind sheet.now k }
 {
     let index = word(sheet, k + 4);
     match Kind::try_from(word(sheet, k + 2)) {
