@@ -8,7 +8,7 @@ ghost use Rattle.sheet.specs.Outcome.{shown_by};
 ghost use Rattle.sheet_catalog.specs.Viewed.{meant, sum_shown, constraint_shown};
 
 use sheet::Record;
-use sheet_format::{long, row, word};
+use sheet_format::{long, word};
 
 // Allows x beside y when lo <= m * x + k * y <= hi.
 #[derive(Clone, Copy)]
@@ -112,7 +112,9 @@ impl Formula {
 fn row_has(rows: &[u8], x: usize, y: usize) -> bool
     ensures { result ≡ table_allows (rows_in (length rows.now / 8) rows.now) x y }
 {
-    x < rows.len() / 8 && bits::has(row(rows, 8 * x), y)
+    let (rows, _) = rows.as_chunks::<8>();
+    rows.get(x)
+        .is_some_and(|row| bits::has(u64::from_le_bytes(*row), y))
 }
 
 impl<'a> Constraint<'a> {
