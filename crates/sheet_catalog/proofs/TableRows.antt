@@ -1,5 +1,5 @@
 -- Row by row through the bytes of a table.
-use Rattle.std.proofs.Common.{◌≡◌, ℕ, zero, suc, ◌*◌, ◌/◌, ◌<◌, ◌≤◌, false, ◌&&◌, ltb, List, ◌∷◌, length, map, get_or, take, drop, sym, refl, ap, ◌∙◌, Some, w64, arith}
+use Rattle.std.proofs.Common.{◌≡◌, ℕ, zero, suc, ◌/◌, ◌<◌, ◌≤◌, false, ◌&&◌, ltb, List, ◌∷◌, length, map, get_or, take, drop, sym, refl, ap, ◌∙◌, Some, w64, arith}
 use Rattle.std.specs.Int.{from_le_bytes}
 use Rattle.std.specs.List.{slice_get}
 use Rattle.std.specs.Option.{option_map}
@@ -9,9 +9,7 @@ use Rattle.std.proofs.lemmas.List.{length-map}
 use Rattle.std.proofs.lemmas.Option.{slice_get-map, slice_get_read, get_or_from_slice_get}
 use Rattle.sheet.proofs.Chunks.{first_row}
 use Rattle.bits.specs.Bits.{has_bit}
-use Rattle.sheet_format.specs.Numbers.{number8}
 use Rattle.sheet_format.specs.Decoding.{rows_in}
-use Rattle.sheet_law.proofs.NumberLaws.{number8-drop}
 use Rattle.sheet_meaning.specs.Meant.{table_allows}
 
 -- the rows are the numbers of the chunks
