@@ -54,12 +54,11 @@ pub(crate) fn constraint_in(record: Record<'_>) -> Option<Constraint<'_>>
     }
 }
 
-// A factor times a value below 64: far from the limits of its type.
-fn term(factor: i16, value: usize) -> i64
-    requires { value < 64 }
+// A factor times a value: far from the limits of its type.
+fn term(factor: i16, value: u8) -> i64
     ensures product { result ≡ factor *ℤ pos value }
-    ensures low { negsuc 2097151 ≤ℤ result }
-    ensures high { result ≤ℤ pos 2097151 }
+    ensures low { negsuc 8388607 ≤ℤ result }
+    ensures high { result ≤ℤ pos 8388607 }
 {
     factor as i64 * value as i64
 }
@@ -70,20 +69,16 @@ fn within(lo: i32, hi: i32, total: i64) -> bool
     lo as i64 <= total && total <= hi as i64
 }
 
-// m * x + k * y: with values below 64 nothing wraps.
+// m * x + k * y, which does not wrap.
 #[tactic(auto, using(crate::proofs::Terms::total_of))]
-fn total(formula: Formula, x: usize, y: usize) -> i64
-    requires left { x < 64 }
-    requires right { y < 64 }
+fn total(formula: Formula, x: u8, y: u8) -> i64
     ensures { result ≡ formula.m *ℤ pos x +ℤ formula.k *ℤ pos y }
 {
     term(formula.m, x) + term(formula.k, y)
 }
 
 // Does the formula hold for these values?
-fn holds(formula: Formula, x: usize, y: usize) -> bool
-    requires left { x < 64 }
-    requires right { y < 64 }
+fn holds(formula: Formula, x: u8, y: u8) -> bool
     ensures { result ≡ sum_allows formula.m formula.k formula.lo formula.hi x y }
 {
     within(formula.lo, formula.hi, total(formula, x, y))
@@ -108,7 +103,7 @@ impl<'a> Constraint<'a> {
             return false;
         }
         match self.pairs {
-            Pairs::Sum(formula) => holds(formula, x, y),
+            Pairs::Sum(formula) => holds(formula, x as u8, y as u8),
             Pairs::Table(rows) => row_has(rows, x, y),
         }
     }
