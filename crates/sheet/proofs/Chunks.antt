@@ -9,7 +9,8 @@ use Rattle.std.proofs.lemmas.Nat.{div_below, le-div}
 use Rattle.sheet_format.specs.Numbers.{number8}
 use Rattle.sheet_format.specs.Verdict.{rows_good}
 
-first_row : (xs : List ℕ) → from_le_bytes w64 (take 8 xs) ≡ number8 xs 0
+-- the row that the first eight bytes are
+pub first_row : (xs : List ℕ) → from_le_bytes w64 (take 8 xs) ≡ number8 xs 0
 first_row xs =
     let at : (i : ℕ) → i < 8 → get_or (take 8 xs) i 0 ≡ get_or xs i 0 = λ i h. get_or-take 8 xs i 0 h in
     let a = at 0 (lit< tt) in

@@ -1,5 +1,5 @@
 mod Answered
-mod Chunks
+pub mod Chunks
 pub mod Encoded
 mod Unknown
 mod Used

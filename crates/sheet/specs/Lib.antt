@@ -1,3 +1,4 @@
 pub mod Outcome
 pub mod Steps
 pub mod Advance
+pub mod Sums

@@ -4,9 +4,11 @@
 mod accepted;
 mod bodies;
 mod checking;
+mod formula;
 mod progress;
 mod reader;
 
 pub use accepted::Accepted;
 pub use checking::check;
+pub use formula::Formula;
 pub use reader::{Record, Rows, read_record};

@@ -5,7 +5,8 @@ ghost use Rattle.sheet_format.specs.Verdict.{Tally, complete, constraints_due, n
 ghost use Rattle.sheet.specs.Outcome.{shown_by};
 ghost use Rattle.sheet.specs.Steps.{step_of, Flows, Ended, Turn};
 
-use crate::bodies::{ends_good, house_used, rows_good, sum_body_good};
+use crate::bodies::{ends_good, house_used, rows_good};
+use crate::formula::Formula;
 use crate::reader::Record;
 use arrayvec::ArrayVec;
 use sheet_format::{Cause, Summary, Variable, word};
@@ -13,8 +14,8 @@ use std::marker::Model;
 use std::ops::ControlFlow;
 
 // What the records so far have said: how many variables the heading gave (none before it), those that came, how many constraints and moves,
-// and the place after the last record that was no move. `n` is a number and no Option, as in the definition: of those that read it only the heading
-// asks whether it is there, and for the others 0 is the number that they want.
+// and the place after the last record that was no move. `n` is a number and no Option, as in the definition's tally, of which Progress is a model:
+// a heading has at least one variable, so 0 is no heading's number, and the tests compare with it as it stands.
 #[derive(Drop)]
 pub struct Progress {
     n: usize,
@@ -170,7 +171,7 @@ impl Progress {
         if !ends_good(self.n, body[0], body[1]) {
             return Err(Cause::BadEnds);
         }
-        if !sum_body_good(body) {
+        if !Formula::of_body(body).is_good() {
             return Err(Cause::BadSum);
         }
         Ok(self.with_constraint(after))

@@ -7,17 +7,7 @@ ghost use Rattle.sheet_meaning.specs.Meant.{sum_allows, table_allows, pair_allow
 ghost use Rattle.sheet.specs.Outcome.{shown_by};
 ghost use Rattle.sheet_catalog.specs.Viewed.{meant, sum_shown, constraint_shown};
 
-use sheet::Record;
-use sheet_format::{long, row, word};
-
-// Allows x beside y when lo <= m * x + k * y <= hi.
-#[derive(Clone, Copy)]
-pub struct Formula {
-    pub m: i16,
-    pub k: i16,
-    pub lo: i32,
-    pub hi: i32,
-}
+use sheet::{Formula, Record};
 
 // Which pairs a constraint allows.
 #[derive(Clone, Copy)]
@@ -42,16 +32,10 @@ fn sum_in(body: &[u8]) -> Option<Constraint<'_>>
     if body.len() < 14 {
         return None;
     }
-    let formula = Formula {
-        m: word(body, 2).cast_signed(),
-        k: word(body, 4).cast_signed(),
-        lo: long(body, 6).cast_signed(),
-        hi: long(body, 10).cast_signed(),
-    };
     Some(Constraint {
         left: body[0],
         right: body[1],
-        pairs: Pairs::Sum(formula),
+        pairs: Pairs::Sum(Formula::of_body(body)),
     })
 }
 
@@ -70,12 +54,11 @@ pub(crate) fn constraint_in(record: Record<'_>) -> Option<Constraint<'_>>
     }
 }
 
-// A factor times a value below 64: far from the limits of its type.
-fn term(factor: i16, value: usize) -> i64
-    requires { value < 64 }
+// A factor times a value: far from the limits of its type.
+fn term(factor: i16, value: u8) -> i64
     ensures product { result ≡ factor *ℤ pos value }
-    ensures low { negsuc 2097151 ≤ℤ result }
-    ensures high { result ≤ℤ pos 2097151 }
+    ensures low { negsuc 8388607 ≤ℤ result }
+    ensures high { result ≤ℤ pos 8388607 }
 {
     factor as i64 * value as i64
 }
@@ -86,25 +69,19 @@ fn within(lo: i32, hi: i32, total: i64) -> bool
     lo as i64 <= total && total <= hi as i64
 }
 
-impl Formula {
-    // m * x + k * y: with values below 64 nothing wraps.
-    #[tactic(auto, using(crate::proofs::Terms::total_of))]
-    fn total(self, x: usize, y: usize) -> i64
-        requires left { x < 64 }
-        requires right { y < 64 }
-        ensures { result ≡ self.m *ℤ pos x +ℤ self.k *ℤ pos y }
-    {
-        term(self.m, x) + term(self.k, y)
-    }
+// m * x + k * y, which does not wrap.
+#[tactic(auto, using(crate::proofs::Terms::total_of))]
+fn total(formula: Formula, x: u8, y: u8) -> i64
+    ensures { result ≡ formula.m *ℤ pos x +ℤ formula.k *ℤ pos y }
+{
+    term(formula.m, x) + term(formula.k, y)
+}
 
-    // Does the formula hold for these values?
-    fn holds(self, x: usize, y: usize) -> bool
-        requires left { x < 64 }
-        requires right { y < 64 }
-        ensures { result ≡ sum_allows self.m self.k self.lo self.hi x y }
-    {
-        within(self.lo, self.hi, self.total(x, y))
-    }
+// Does the formula hold for these values?
+fn holds(formula: Formula, x: u8, y: u8) -> bool
+    ensures { result ≡ sum_allows formula.m formula.k formula.lo formula.hi x y }
+{
+    within(formula.lo, formula.hi, total(formula, x, y))
 }
 
 // Is bit y of row x set? No past the rows.
@@ -112,7 +89,9 @@ impl Formula {
 fn row_has(rows: &[u8], x: usize, y: usize) -> bool
     ensures { result ≡ table_allows (rows_in (length rows.now / 8) rows.now) x y }
 {
-    x < rows.len() / 8 && bits::has(row(rows, 8 * x), y)
+    let (rows, _) = rows.as_chunks::<8>();
+    rows.get(x)
+        .is_some_and(|row| bits::has(u64::from_le_bytes(*row), y))
 }
 
 impl<'a> Constraint<'a> {
@@ -124,7 +103,7 @@ impl<'a> Constraint<'a> {
             return false;
         }
         match self.pairs {
-            Pairs::Sum(formula) => formula.holds(x, y),
+            Pairs::Sum(formula) => holds(formula, x as u8, y as u8),
             Pairs::Table(rows) => row_has(rows, x, y),
         }
     }

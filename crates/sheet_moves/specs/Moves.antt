@@ -1,5 +1,5 @@
 -- Moves in the code, as the sheet's value has them.
-use Rattle.std.specs.Prelude.{◌≡◌, ℕ, ◌+◌, cond, List, Err, ◌==◌}
+use Rattle.std.specs.Prelude.{◌≡◌, ℕ, cond, List, Err, ◌==◌}
 use Rattle.sheet_format.specs.Numbers.{number2}
 use Rattle.sheet_format.specs.Value as value
 use Rattle.sheet_format.specs.Verdict.{Verdict}
@@ -13,9 +13,9 @@ abbrev pub said : Move → value.Move
 said (Add p) = value.add p
 said (Retract p) = value.retract p
 
--- the move whose record begins at the byte k
-abbrev pub move_at : List ℕ → ℕ → value.Move
-move_at xs k = cond (number2 xs (k + 2) == 5) (value.add (number2 xs (k + 4))) (value.retract (number2 xs (k + 4)))
+-- the move that a record's bytes are, told by its kind
+abbrev pub move_by_kind : List ℕ → Move
+move_by_kind xs = cond (number2 xs 2 == 5) (Add (number2 xs 4)) (Retract (number2 xs 4))
 
 -- there are no moves: memory may be wanting at any time, and a sheet's fault is that of its verdict
 abbrev pub Refused : Verdict → MovesFault → Type 0

@@ -1,8 +1,8 @@
 // The moves of a sheet, read straight from its bytes.
-ghost use Rattle.std.specs.Prelude.{◌≡◌, ◌+◌, ◌<◌, map, length, MatchResult};
+ghost use Rattle.std.specs.Prelude.{◌≡◌, ◌+◌, ◌<◌, map, length, IfOk, MatchResult};
 ghost use Rattle.sheet_format.specs.Decoding.{decode};
 ghost use Rattle.sheet_format.specs.Verdict.{verdict};
-ghost use Rattle.sheet_moves.specs.Moves.{said, move_at, Refused as Turned};
+ghost use Rattle.sheet_moves.specs.Moves.{said, move_by_kind, Refused as Turned};
 ghost use Rattle.sheet_moves.specs.declared.moves.MovesFault.TheVariants.{Sheet, Memory};
 
 use crate::kinds::Move;
@@ -34,31 +34,33 @@ impl From<AllocError> for MovesFault {
     }
 }
 
-// The move whose record begins at the byte k, where the check has seen one.
+// The move that a record is, where the check has seen one.
 #[tactic(auto, using(crate::proofs::Places::no_add))]
-fn move_at(sheet: &[u8], k: usize) -> Move
-    requires { k + 5 < length sheet.now }
-    ensures { said result ≡ move_at sheet.now k }
+fn move_in(record: &[u8; 6]) -> Move
+    ensures { result ≡ move_by_kind record.now }
 {
-    let index = word(sheet, k + 4);
-    match Kind::try_from(word(sheet, k + 2)) {
+    let index = word(record, 4);
+    match Kind::try_from(word(record, 2)) {
         Ok(Kind::Add) => Move::Add(index),
         _ => Move::Retract(index),
     }
 }
 
+// The moves that these records are.
+fn moves_in(heap: Global, records: &[[u8; 6]]) -> Result<Vec<Move>, AllocError>
+    ensures { IfOk result (λ v. v.items ≡ map move_by_kind records.now) }
+{
+    records.iter().map(move_in).collect(heap)
+}
+
 // The moves of a sheet, in their order; nothing of a refused sheet but its fault.
-#[tactic(auto, using(crate::proofs::Places::moves_more))]
+#[tactic(auto, using(crate::proofs::Places::moves_fit))]
 pub fn moves_of(heap: Global, sheet: &[u8]) -> Result<Vec<Move>, MovesFault>
     ensures { MatchResult result (λ v. map said v.items ≡ (decode sheet.now).moves) (λ f. Turned (verdict sheet.now) f) }
 {
     let found = check(sheet)?;
-    let count = found.moves as usize;
     let begin = found.moves_at as usize;
-    let mut moves = Vec::with_capacity(heap, count)?;
-    // A loop: of `(0..count).map(..).collect(..)` it did not close that the closure may be called at each turn.
-    for i in 0..count {
-        moves.push_reserved(move_at(sheet, begin + 6 * i));
-    }
+    let (records, _) = sheet[begin..].as_chunks::<6>();
+    let moves = moves_in(heap, &records[..found.moves as usize])?;
     Ok(moves)
 }
