@@ -7,7 +7,6 @@ use anyhow::anyhow;
 use report::lines_of;
 use runner::RunFault;
 use sheet_run::run_sheet;
-use sheet_text::fault_line;
 use std::io::Read;
 
 fn main(rt: HostRuntime) -> anyhow::Result<()> {
@@ -15,7 +14,7 @@ fn main(rt: HostRuntime) -> anyhow::Result<()> {
     rt.stdin().read_to_end(&mut sheet)?;
     match run_sheet(rt.alloc(), &sheet) {
         Ok(report) => rt.print(lines_of(rt.alloc(), &report)?)?,
-        Err(RunFault::Sheet(fault)) => rt.println(fault_line(rt.alloc(), fault)?)?,
+        Err(RunFault::Sheet(fault)) => rt.println(fault)?,
         Err(_) => return Err(anyhow!("no memory for the run")),
     }
     Ok(())

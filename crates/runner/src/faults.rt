@@ -9,7 +9,8 @@ use sheet_format::SheetFault;
 use sheet_moves::MovesFault;
 use std::alloc::AllocError;
 
-// A refused move: how many moves came before it, and why it was refused.
+// A refused move: how many moves came before it, and why it was refused. No `Counted<Refusal>`: this type is public with these fields, and a
+// `Counted` counts records of a sheet, in a `u32`.
 #[derive(Clone, Copy, PartialEq, Eq, Debug)]
 pub struct MoveFault {
     pub before: usize,
@@ -24,7 +25,8 @@ pub enum RunFault {
     Memory,
 }
 
-// The conversions are written out: a derived one has no contract, and `run_sheet`'s says which fault a `?` makes.
+// The conversions are written out: a derived one has no contract, and each of these says which fault it makes. The `?` of `run_sheet` makes a
+// sheet's fault and that of memory; no `?` here makes that of a refused move, whose conversion stays as it is public.
 impl From<MovesFault> for RunFault {
     ghost from_gives = { λ x y. y ≡ from_moves x };
 

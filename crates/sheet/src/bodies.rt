@@ -31,7 +31,8 @@ pub(crate) fn rows_good(rows: &[u8], size: u16) -> bool
         .all(|row| row_fits(u64::from_le_bytes(*row), size))
 }
 
-// the ends of a constraint are two different variables out of n
+// The ends of a constraint are two different variables out of n. They come apart, as two bytes of a sum's body and as two fields of the public
+// record of a table: a struct of both would be made for this call alone.
 pub(crate) fn ends_good(n: usize, left: u8, right: u8) -> bool
     ensures { result ≡ ends_good n left right }
 {

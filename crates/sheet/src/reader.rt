@@ -13,7 +13,8 @@ pub struct Rows<'a> {
     pub place: usize,
 }
 
-// A record by its kind, with its body as it stands in the sheet. Of a table with both its ends, all that follows them are rows.
+// A record by its kind, with its body as it stands in the sheet. Of a table with both its ends, all that follows them are rows. The ends are
+// two fields: the type is public and has them so.
 #[derive(Clone, Copy)]
 pub enum Record<'a> {
     Heading(&'a [u8]),
@@ -27,6 +28,8 @@ pub enum Record<'a> {
 }
 
 // A table constraint that begins at `place`: its ends and its rows, or its body where that is too short for both ends.
+// The place is handed down beside the bytes, with no struct of both: the public `read_record` is given the two apart, and the public `Rows` has a
+// place of its own, six bytes on, beside other bytes.
 fn table_record(body: &[u8], place: u32) -> Record<'_>
     ensures { shown_by result ≡ shown_table body.now place }
 {

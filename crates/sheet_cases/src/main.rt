@@ -4,7 +4,6 @@
 
 use anyhow::{Context, anyhow};
 use sheet::check;
-use sheet_text::{accepted_line, fault_line};
 use std::alloc::Global;
 use std::io::{BufRead, BufReader};
 
@@ -51,15 +50,13 @@ fn sheet_of(heap: Global, text: &str) -> anyhow::Result<Vec<u8>> {
 fn try_case(rt: &HostRuntime, name: &str, sheet: &[u8]) -> anyhow::Result<()> {
     match check(sheet) {
         Ok(found) => {
-            let line = accepted_line(rt.alloc(), found)?;
             let constraints = found.constraints_at;
             let moves = found.moves_at;
-            println!(rt; "{name}: {line}; constraints at {constraints}, moves at {moves}")?;
+            println!(rt; "{name}: {found}; constraints at {constraints}, moves at {moves}")?;
         }
         Err(fault) => {
-            let line = fault_line(rt.alloc(), fault)?;
             let before = fault.records();
-            println!(rt; "{name}: {line}; {before} records before")?;
+            println!(rt; "{name}: {fault}; {before} records before")?;
         }
     }
     Ok(())

@@ -17,7 +17,7 @@ pub enum Pairs<'a> {
     Table(&'a [u8]),
 }
 
-// A constraint between two variables of the sheet.
+// A constraint between two variables of the sheet. Its ends are two fields, as in the public record of a table from which they are copied.
 #[derive(Clone, Copy)]
 pub struct Constraint<'a> {
     pub left: u8,

@@ -1,4 +1,5 @@
-// The lines that say what the check of a sheet found.
+// The lines that say what the check of a sheet found, each as a string: both functions are public and promise that string, for those who ask for
+// it. A fault and what an accepted sheet holds print themselves, and one who only prints needs neither.
 #![tactic(auto)]
 
 ghost use Rattle.std.specs.Prelude.{◌≡◌, IfOk, string_bytes};

@@ -2,16 +2,14 @@
 #![tactic(auto)]
 
 use sheet::check;
-use sheet_text::{accepted_line, fault_line};
 use std::io::Read;
 
 fn main(rt: HostRuntime) -> anyhow::Result<()> {
     let mut sheet = Vec::new(rt.alloc());
     rt.stdin().read_to_end(&mut sheet)?;
-    let line = match check(&sheet) {
-        Ok(found) => accepted_line(rt.alloc(), found)?,
-        Err(fault) => fault_line(rt.alloc(), fault)?,
-    };
-    rt.println(line)?;
+    match check(&sheet) {
+        Ok(found) => rt.println(found)?,
+        Err(fault) => rt.println(fault)?,
+    }
     Ok(())
 }

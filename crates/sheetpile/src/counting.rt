@@ -4,6 +4,7 @@ ghost use Rattle.scratch.specs.Named.{named};
 ghost use Rattle.sheetpile.specs.Counts.{beside_count, pair_count, is_inside};
 
 use catalog::Catalog;
+use refusal::checks::check_constraint;
 use std::alloc::{AllocError, Global};
 
 // how many values below the size the constraint p allows beside x
@@ -33,10 +34,7 @@ pub fn pairs<C: Catalog>(catalog: &C, p: usize, left_size: usize, right_size: us
 fn lies_inside<C: Catalog>(catalog: &C, p: usize, n: usize) -> bool
     ensures { result ≡ is_inside (C.Catalog.meaning catalog.now) n p }
 {
-    match catalog.ends(p) {
-        Some((a, b)) => a < n && b < n,
-        None => false,
-    }
+    check_constraint(catalog, n, p).is_ok()
 }
 
 // The indices of the constraints whose ends both lie below n.

@@ -7,25 +7,23 @@ mod counting;
 
 use catalog::Catalog;
 use counting::{inside, pairs};
+use refusal::checks::check_constraint;
 use run_text::domain_line;
 use scratch::largest_domains;
 use sheet::check;
 use sheet_pile::pile;
 use sheet_pile::sizes::Sizes;
-use sheet_text::fault_line;
 use std::io;
 use std::io::Read;
 
 // A line for each constraint.
 fn print_constraints<C: Catalog>(rt: &HostRuntime, catalog: &C, sizes: &[usize]) -> io::Result<()> {
     for p in 0..catalog.count() {
-        if let Some((a, b)) = catalog.ends(p) {
-            if a < sizes.len() && b < sizes.len() {
-                let allowed = pairs(catalog, p, sizes[a].min(64), sizes[b].min(64));
-                println!(rt; "constraint {p} ends {a} {b} pairs {allowed}")?;
-            } else {
-                println!(rt; "constraint {p} ends {a} {b} outside")?;
-            }
+        if let Ok((a, b)) = check_constraint(catalog, sizes.len(), p) {
+            let allowed = pairs(catalog, p, sizes[a].min(64), sizes[b].min(64));
+            println!(rt; "constraint {p} ends {a} {b} pairs {allowed}")?;
+        } else if let Some((a, b)) = catalog.ends(p) {
+            println!(rt; "constraint {p} ends {a} {b} outside")?;
         }
     }
     Ok(())
@@ -50,7 +48,7 @@ fn main(rt: HostRuntime) -> anyhow::Result<()> {
     let mut sheet = Vec::new(rt.alloc());
     rt.stdin().read_to_end(&mut sheet)?;
     if let Err(fault) = check(&sheet) {
-        rt.println(fault_line(rt.alloc(), fault)?)?;
+        rt.println(fault)?;
         return Ok(());
     }
     let catalog = pile(&sheet);
