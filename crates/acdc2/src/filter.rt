@@ -29,6 +29,7 @@ impl<C: Catalog> Solver<'_, C> {
     {
         let near = self.state.domain(arc.near);
         let far = self.state.domain(arc.far);
+        // No chain over the values that are shown: a loop over `filter` with a closure takes no invariant yet, and `present` is to stay.
         for d in 0..64 {
             if bits::has(near, d) && !arc.supported(self.catalog, d, far) {
                 self.state.put_out(arc.near, d, arc.far);

@@ -90,6 +90,7 @@ impl<C: Catalog> Solver<'_, C> {
     fn spread(&mut self, from: Restored, waiting: &mut Vec<Restored>) -> Result<(), AllocError>
         ensures { self.new.state.present ≡ self.old.state.present }
     {
+        // No chain over the arcs: a loop over `filter_map` with a closure takes no invariant yet, and `present` is to stay.
         for p in 0..128 {
             if let Some(arc) = Arc::toward(self.catalog, p, from.variable)
                 && self.state.present.has(p)

@@ -21,6 +21,7 @@ pub fn run_moves<C: Catalog + Drop>(
 ) -> Result<Vec<Answer>, AllocError>
     ensures { IfOk result (λ v. Run (C.Catalog.meaning catalog) (calls_for (record { waiting = 128; returning = 2048 }) sizes.now moves.now) v.items) }
 {
+    // Two literals, as in the other places that lend rooms: the public call takes the two one by one, and a struct of both would be taken apart at once.
     let mut waiting = [0; 128];
     let mut returning = [Returning::default(); 2048];
     let calls = calls_for(heap, sizes, moves)?;
