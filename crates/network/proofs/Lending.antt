@@ -58,10 +58,22 @@ took_lent m s s' b b' k r took err writes =
       performed = record { step = took.step; buffers = leaves_changed _ m _ k r _ b b' took.step.turned err writes };
     }
 
+pub err_both : (w w' : List ℕ) (v v' : List Returning) (r : Result Change Refusal) → OnErr r (w' ≡ w) → OnErr r (v' ≡ v) → OnErr r (buffers w' v' ≡ buffers w v)
+err_both w w' v v' (Ok c) e f = tt
+err_both w w' v v' (Err x) e f = ap (λ z. buffers z v') e ∙ ap (buffers w) f
+
 pub err_part : (w w' : List ℕ) (v v' : List Returning) (k l : ℕ) (r : Result Change Refusal) → OnErr r (w' ≡ take k w) → OnErr r (v' ≡ take l v) → OnErr r (buffers (w' ++ drop k w) (v' ++ drop l v) ≡ buffers w v)
 err_part w w' v v' k l (Ok c) e f = tt
-err_part w w' v v' k l (Err x) e f =
-    ap (λ z. buffers z (v' ++ drop l v)) (same_part k w w' e) ∙ ap (buffers w) (same_part l v v' f)
+err_part w w' v v' k l (Err x) e f = err_both w (w' ++ drop k w) v (v' ++ drop l v) (Err x) (same_part k w w' e) (same_part l v v' f)
+
+unwritten : (o : Option Refusal) (k : Call) (b : Buffers) → Writes k b b → Leaves o k b b
+unwritten None k b w = w
+unwritten (Some e) k b w = refl
+
+-- a call that writes nothing
+pub took_alone : (m : Meaning) (s s' : State) (b : Buffers) (k : Call) (a : Answer) → Took m s k a s' → Writes k b b → TookLent m s b k a s' b
+took_alone m s s' b k a took w =
+    record { linked = took.linked; performed = record { step = took.step; buffers = unwritten _ k b w } }
 
 -- what holds holds where a result is an error
 pub on_err : {A E : Type 0} {P : Type 0} (r : Result A E) → P → OnErr r P

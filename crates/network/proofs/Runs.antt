@@ -14,7 +14,7 @@ use Rattle.network_law.specs.History.{Performed, History}
 use Rattle.network_law.proofs.Histories.{one_more}
 use Rattle.network_model.specs.declared.State.{State}
 use Rattle.network_model.specs.Model.{moment_of}
-use Rattle.network_model.specs.Performs.{rooms_of}
+use Rattle.network_model.specs.Performs.{TookLent, rooms_of}
 use Rattle.network.specs.Requests.{call_of, calls_of}
 use Rattle.network.specs.declared.calls.Call.{Call}
 
@@ -46,20 +46,25 @@ take_there n m xs e =
 pub same_rooms : (w w' : List ℕ) (r r' : List Returning) → Past 128 w w' → Past 2048 r r' → rooms_of w' r' ≡ rooms_of w r
 same_rooms w w' r r' p q k = record { waiting = p.long k; returning = q.long k }
 
+-- one call more at the end
+pub lent_more
+    : (m m' : Meaning) (first : Moment) (b c d : Buffers) (ks : List Asked) (answers : List Answer) (k : Asked) (a : Answer) (s s' : State) → m' ≡ m
+    → History m first b ks answers (moment_of s) c → TookLent m' s c k a s' d → History m first b (ks ++ (k ∷ [])) (answers ++ (a ∷ [])) (moment_of s') d
+lent_more m m' first b c d ks answers k a s s' same history took =
+    one_more m first (moment_of s) (moment_of s') b c d ks answers k a history (subst (λ v. Performed v (moment_of s) c k a (moment_of s') d) same took.performed)
+
 pub call_more
     : (m m' : Meaning) (first : Moment) (b c d : Buffers) (calls : List Call) (i : ℕ) (default : Call) (rooms rooms' : Rooms) (answers : List Answer) (a : Answer) (s s' : State)
     → i < length calls → i < length answers → rooms' ≡ rooms → m' ≡ m
-    → History m first b (calls_of rooms (take i calls)) (take i answers) (moment_of s) c → Performed m' (moment_of s) c (call_of rooms' (get_or calls i default)) a (moment_of s') d
+    → History m first b (calls_of rooms (take i calls)) (take i answers) (moment_of s) c → TookLent m' s c (call_of rooms' (get_or calls i default)) a s' d
     → History m first b (calls_of rooms (take (i + 1) calls)) (take (i + 1) (set answers i a)) (moment_of s') d
 call_more m m' first b c d calls i default rooms rooms' answers a s s' low there lent same history did =
     let call : Call = get_or calls i default in
-    let T : Meaning → Type 0 = λ v. Performed v (moment_of s) c (call_of rooms' call) a (moment_of s') d in
-    let U : Rooms → Type 0 = λ v. Performed m (moment_of s) c (call_of v call) a (moment_of s') d in
-    let step : Performed m (moment_of s) c (call_of rooms call) a (moment_of s') d = subst U lent (subst T same did) in
+    let U : Rooms → Type 0 = λ v. TookLent m' s c (call_of v call) a s' d in
     let more : calls_of rooms (take (i + 1) calls) ≡ calls_of rooms (take i calls) ++ (call_of rooms call ∷ []) =
     map_more (call_of rooms) calls i default low
     in
     let H : List Asked → Type 0 = λ v. History m first b v (take i answers ++ (a ∷ [])) (moment_of s') d in
     let K : List Answer → Type 0 = λ v. History m first b (calls_of rooms (take (i + 1) calls)) v (moment_of s') d in
     subst K (sym (take_more_set answers i a there))
-    (subst H (sym more) (one_more m first (moment_of s) (moment_of s') b c d (calls_of rooms (take i calls)) (take i answers) (call_of rooms call) a history step))
+    (subst H (sym more) (lent_more m m' first b c d (calls_of rooms (take i calls)) (take i answers) (call_of rooms call) a s s' same history (subst U lent did)))

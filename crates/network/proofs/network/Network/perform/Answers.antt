@@ -20,7 +20,7 @@ loop-i-preserved g c =
           call_more (g.C.Catalog.meaning first.catalog) (g.C.Catalog.meaning now.catalog) _ (buffers c.args.waiting.now c.args.returning.now) (buffers c.loop-i.waiting c.loop-i.returning) (buffers did.new.waiting did.new.returning)
           calls c.loop-i.i _ (rooms_of c.args.waiting.now c.args.returning.now) (rooms_of c.loop-i.waiting c.loop-i.returning) c.loop-i.answers did.result now.state did.new.self.state
           (omega arith) (omega (arith, inv.answers.long, there)) (same_rooms c.args.waiting.now c.loop-i.waiting c.args.returning.now c.loop-i.returning inv.past inv.past_returning)
-          (ap g.C.Catalog.meaning inv.catalog) (inv.history stands) (did.ensures.performs (inv.stands stands)).performed;
+          (ap g.C.Catalog.meaning inv.catalog) (inv.history stands) (did.ensures.performs (inv.stands stands));
       answers = past_set c.loop-i.i c.args.answers.now c.loop-i.answers did.result inv.answers;
       past = past_trans 128 c.args.waiting.now c.loop-i.waiting did.new.waiting inv.past did.ensures.past;
       past_returning = past_trans 2048 c.args.returning.now c.loop-i.returning did.new.returning inv.past_returning did.ensures.past_returning;
