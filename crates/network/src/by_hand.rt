@@ -1,6 +1,5 @@
 // Calls made one by one: the pattern for a program that makes its own.
 ghost use Rattle.std.specs.Prelude.{◌≡◌, [], ◌∷◌};
-ghost use Rattle.domains.specs.Stands.{Past};
 ghost use Rattle.network.specs.ByHand.{answers_of};
 ghost use Rattle.network.specs.Served.{Stands};
 ghost use Rattle.network_law.specs.Calls.{adds, asks_domain, opens, retracts};
