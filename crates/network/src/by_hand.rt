@@ -26,7 +26,7 @@ pub struct Tried {
 }
 
 // Opens a network on the catalog, adds one constraint, asks for a variable's domain, retracts the constraint and asks again. The calls are made one by one,
-// whether or not one is refused, and what they answer is the law of networks, since the network stands rightly when it is made and after each call.
+// whether or not one is refused, and what they answer is the law of networks, since the network is linked to its catalog when it is made and after each call.
 pub fn try_out<C: Catalog>(
     catalog: C,
     sizes: &[usize],

@@ -9,20 +9,20 @@ pub returns-clause-performs : goal.returns-clause-performs
 returns-clause-performs g c stands =
     let w = c.args.waiting.now in
     let v = c.args.returning.now in
-    let k = c.cut-part.result.waiting in
-    let l = c.cut-part.result.returning in
+    let k = c.cut-lent.result.waiting in
+    let l = c.cut-lent.result.returning in
     let did = c.retract in
     let m = g.C.Catalog.meaning c.args.self.now.catalog in
     let answer = answer_by Changed did.result in
     subst (λ rooms. TookLent m c.args.self.now.state (buffers w v) (retracts c.args.constraint rooms) answer did.new.self.state (buffers (did.new.waiting ++ drop k w) (did.new.returning ++ drop l v)))
-    (lent_rooms w v k l c.args.lent c.cut-part.ensures.waiting c.cut-part.ensures.returning)
+    (lent_rooms w v k l c.args.lent c.cut-lent.ensures.waiting c.cut-lent.ensures.returning)
     (part_lent m c.args.self.now.state did.new.self.state _ answer w did.new.waiting v did.new.returning k l
-    (omega (arith, c.cut-part.ensures.waiting)) (omega (arith, c.cut-part.ensures.returning)) (did.ensures.performs stands))
+    (omega (arith, c.cut-lent.ensures.waiting)) (omega (arith, c.cut-lent.ensures.returning)) (did.ensures.performs stands))
 
 pub returns-clause-past : goal.returns-clause-past
 returns-clause-past g c =
-    past_part 128 c.cut-part.result.waiting c.args.waiting.now c.retract.new.waiting (omega (arith, c.cut-part.ensures.waiting)) c.retract.ensures.past
+    past_part 128 c.cut-lent.result.waiting c.args.waiting.now c.retract.new.waiting (omega (arith, c.cut-lent.ensures.waiting)) c.retract.ensures.past
 
 pub returns-clause-past_returning : goal.returns-clause-past_returning
 returns-clause-past_returning g c =
-    past_part 2048 c.cut-part.result.returning c.args.returning.now c.retract.new.returning (omega (arith, c.cut-part.ensures.returning)) c.retract.ensures.past_returning
+    past_part 2048 c.cut-lent.result.returning c.args.returning.now c.retract.new.returning (omega (arith, c.cut-lent.ensures.returning)) c.retract.ensures.past_returning
