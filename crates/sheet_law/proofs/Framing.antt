@@ -11,7 +11,7 @@ use Rattle.sheet_format.specs.Reading.{Shown, shown, Reading, taken, broken, tak
 use Rattle.sheet_law.proofs.NumberLaws.{two_back, Bytes, word_at}
 
 -- the bytes of a record's body, and those after it, cut from what follows the head
-body_cut : (xs : List ℕ) (n : ℕ) → 4 ≤ n → take (n - 4) (drop 4 xs) ≡ drop 4 (take n xs)
+pub body_cut : (xs : List ℕ) (n : ℕ) → 4 ≤ n → take (n - 4) (drop 4 xs) ≡ drop 4 (take n xs)
 body_cut xs n h = sym (drop-take 4 (n - 4) xs) ∙ ap (λ k. drop 4 (take k xs)) (omega arith)
 
 rest_cut : (xs : List ℕ) (n : ℕ) → 4 ≤ n → drop (n - 4) (drop 4 xs) ≡ drop n xs
