@@ -1,5 +1,5 @@
 -- The law of sheets, in the format's own words: bytes are accepted exactly when they are the encoding of a valid sheet, and there is one such;
--- bytes that are refused are so at the end of the longest beginning of a sheet, for the first rule that is broken there.
+-- bytes that are refused are so at the end of the longest beginning of a sheet, for the first rule that is broken there. It leaves no other answer.
 use Rattle.std.specs.Prelude.{◌≡◌, ℕ, ◌+◌, ◌*◌, ◌<◌, ◌≤◌, List, [], ◌++◌, map, length, Ok, Err, Result, ◌≢◌}
 use Rattle.std.specs.List.{flat_map}
 use Rattle.sheet_format.specs.declared.found.Summary.{Summary}
@@ -53,16 +53,23 @@ pub record Trails (bytes : List ℕ) (byte records : ℕ) : Type 0 where
   pub byte_is : byte ≡ length (encode sheet)
   pub records_are : records ≡ length (records_of sheet)
 
+-- a fault has this number, byte and count
+pub record Says (fault : SheetFault) (number byte records : ℕ) : Type 0 where
+  pub number_is : number ≡ fault_number fault
+  pub byte_is : byte ≡ fault_byte fault
+  pub records_are : records ≡ fault_records fault
+
 -- Why bytes are refused, by the number, the byte and the count of the fault. The limit of 65,535 bytes comes before all else.
 pub data Refused (bytes : List ℕ) (number byte records : ℕ) : Type 0 where
   too_long : number ≡ cause_number TooLong → 65535 < length bytes → byte ≡ 65535 → records ≡ 0 → Refused bytes number byte records
   trails : number ≡ cause_number Trailing → Trails bytes byte records → Refused bytes number byte records
   goes_wrong : GoesWrong bytes number byte records → Refused bytes number byte records
 
--- no valid sheet has these bytes, and the fault says why
+-- no valid sheet has these bytes; the fault says why, and no other number, byte or count would
 pub record Faulty (bytes : List ℕ) (fault : SheetFault) : Type 0 where
   pub no_sheet : (s : Sheet) → Valid s → encode s ≢ bytes
   pub why : Refused bytes (fault_number fault) (fault_byte fault) (fault_records fault)
+  pub alone : (number byte records : ℕ) → Refused bytes number byte records → Says fault number byte records
 
 abbrev pub Law : List ℕ → Result Summary SheetFault → Type 0
 Law bytes (Ok found) = Encodes bytes found

@@ -1,13 +1,13 @@
 -- The law of sheets.
-use Rattle.std.proofs.Common.{◌≡◌, ℕ, zero, suc, ◌+◌, ◌-◌, ◌*◌, ◌/◌, ◌<◌, ◌≤◌, Bool, true, false, cond, ltb, ◌⊎◌, List, [], ◌∷◌, ◌++◌, map, length, get_or, take, drop, Some, None, Ok, Err, Option, sym, refl, ap, ◌∙◌, subst, inl, inr, zero-add, arith}
+use Rattle.std.proofs.Common.{◌≡◌, ℕ, zero, suc, ◌+◌, ◌-◌, ◌*◌, ◌/◌, ◌<◌, ◌≤◌, Bool, true, false, cond, eqb, ltb, ◌⊎◌, List, [], ◌∷◌, ◌++◌, map, length, get_or, take, drop, Some, None, Ok, Err, Option, sym, refl, ap, ◌∙◌, subst, inl, inr, zero-add, arith}
 use Rattle.std.specs.Option.{option_to_list}
 use Rattle.std.specs.List.{flat_map, AllByRecursion}
-use Rattle.std.proofs.lemmas.List.{append_assoc, append-nil, length-append}
+use Rattle.std.proofs.lemmas.List.{nil_from_length, append_assoc, append-nil, length-append}
 use Rattle.std.proofs.ByRecursion.{All-from_get_or, All-append, All-map, All-weaker}
-use Rattle.std.proofs.lemmas.Bool.{ltb-true, ltb-false}
+use Rattle.std.proofs.lemmas.Bool.{ltb-true, ltb-false, cond-false, ne_eqb}
 use Rattle.sheet_format.specs.declared.found.Variable.{Variable}
 use Rattle.sheet_format.specs.declared.found.Summary.{Summary}
-use Rattle.sheet_format.specs.declared.faults.Cause.TheVariants.{TooLong, OutOfTurn}
+use Rattle.sheet_format.specs.declared.faults.Cause.TheVariants.{TooLong, OutOfTurn, Trailing}
 use Rattle.sheet_format.specs.declared.faults.SheetFault.{SheetFault}
 use Rattle.sheet_format.specs.Numbers.{eight, number2}
 use Rattle.sheet_format.specs.Faults.{fault_number, fault_byte, fault_records}
@@ -16,16 +16,17 @@ use Rattle.sheet_format.specs.Encoding.{Raw, framed, heading_record, variable_re
 use Rattle.sheet_format.specs.Decoding.{first_record, split, rows_in, as_variable, as_constraint, as_move, gathered, sheet_of, decode}
 use Rattle.sheet_format.specs.Beginnings.{Begun, heading_begun, records_begun, bytes_begun, AllThere, Keeps}
 use Rattle.sheet_format.specs.Reading.{shows_end}
-use Rattle.sheet_format.specs.Verdict.{Tally, nothing_yet, step, ends, unless, Verdict, format_fault, after_step, walked, verdict}
-use Rattle.sheet_format.specs.Law.{summary_of, Encodes, Refused, too_long, trails, goes_wrong, Law}
+use Rattle.sheet_format.specs.Verdict.{Tally, nothing_yet, step, ends, unless, summary, Verdict, format_fault, after_step, walked, verdict}
+use Rattle.sheet_format.specs.Law.{summary_of, Encodes, Says, Refused, too_long, trails, goes_wrong, Law}
 use Rattle.sheet_law.proofs.NumberLaws.{two_back, Bytes}
 use Rattle.sheet_law.proofs.Framing.{Short, framed-length, framed_first}
 use Rattle.sheet_law.proofs.Tallies.{past, nothing_begun, begun_tally, is_complete}
-use Rattle.sheet_law.proofs.Walks.{first_step, walked_on, later}
+use Rattle.sheet_law.proofs.Walks.{first_step, walked_on, no_fault, later}
 use Rattle.sheet_law.proofs.Rows.{rows_there}
 use Rattle.sheet_law.proofs.Items.{sum_there}
 use Rattle.sheet_law.proofs.Forward.{size_low, variable_again, begun_reaches}
 use Rattle.sheet_law.proofs.Sheets.{sheet_said, sheet_begun, ended_records, ended_bytes, said_valid, all_begun, sheet_keeps, said_summary}
+use Rattle.sheet_law.proofs.Alone.{says, wrong_found}
 use Rattle.sheet_law.proofs.Telling.{Whole, Over, Off, Told, told}
 
 -- framed records, split again
@@ -209,29 +210,34 @@ accepted_law xs z short w =
       sums_up = w.sums_up ∙ said_summary b w.ended.all ∙ ap summary_of (sym back);
     }
 
+-- a whole sheet, and what follows it
+walk_over : (xs more : List ℕ) (s : Sheet) → Valid s → length xs ≤ 65535 → xs ≡ encode s ++ more
+    → walked (suc (length xs)) xs 0 0 nothing_yet ≡ cond (eqb (length more) 0) (Ok (summary (begun_tally (sheet_begun s)))) (format_fault Trailing (length (encode s)) (length (records_of s)))
+walk_over xs more s v short same =
+    let b : Begun = sheet_begun s in
+    let g : Tally = begun_tally b in
+    let count : ℕ = length (records_begun b) in
+    let all : AllThere b = all_begun s v in
+    let bytes : xs ≡ bytes_begun b ++ (framed end_record ++ more) =
+    same ∙ ap (λ ys. ys ++ more) (sym (ended_bytes b all)) ∙ append_assoc (bytes_begun b) (framed end_record) more in
+    let few = records_few (records_begun b) in
+    let long = length-append (bytes_begun b) (framed end_record ++ more) in
+    let size = ap length bytes in
+    let left : suc (length xs) - length (records_begun b) ≡ suc (length xs - length (records_begun b)) = omega arith in
+    let turn : step g (shows_end []) (past (length (bytes_begun b)) end_record) ≡ ends = ap (λ t. unless t OutOfTurn ends) (is_complete b all) in
+    let place : past (length (bytes_begun b)) end_record ≡ length (encode s) = sym (length-append (bytes_begun b) (framed end_record)) ∙ ap length (ended_bytes b all) in
+    let many : count + 1 ≡ length (records_of s) = sym (length-append (records_begun b) (end_record ∷ [])) ∙ ap length (ended_records b all) in
+    walk_after xs (framed end_record ++ more) b (suc (length xs)) (sheet_keeps s v) short (omega arith) bytes
+    ∙ ap (λ m. walked m (framed end_record ++ more) (length (bytes_begun b)) count g) left
+    ∙ first_step end_record more g (length (bytes_begun b)) count (length xs - length (records_begun b)) (shows_end []) (record { kind_low = omega arith; length_low = omega arith }) refl
+    ∙ ap (after_step (walked (length xs - length (records_begun b))) g (length (bytes_begun b)) count more (past (length (bytes_begun b)) end_record)) turn
+    ∙ ap (λ p. cond (eqb (length more) 0) (Ok (summary g)) (format_fault Trailing p (count + 1))) place
+    ∙ ap (λ n. cond (eqb (length more) 0) (Ok (summary g)) (format_fault Trailing (length (encode s)) n)) many
+
 -- refused bytes encode none
 refused_law : (xs : List ℕ) (f : SheetFault) → walked (suc (length xs)) xs 0 0 nothing_yet ≡ Err f → (s : Sheet) → Valid s → encode s ≡ xs → ⊥
 refused_law xs f e s v same =
-    let b : Begun = sheet_begun s in
-    let g : Tally = begun_tally b in
-    let all : AllThere b = all_begun s v in
-    let bytes : xs ≡ bytes_begun b ++ framed end_record = sym same ∙ sym (ended_bytes b all) in
-    let few = records_few (records_begun b) in
-    let long = length-append (bytes_begun b) (framed end_record) in
-    let size = ap length bytes in
-    let short : length xs ≤ 65535 = subst (λ ys. length ys ≤ 65535) same v.short in
-    let left : suc (length xs) - length (records_begun b) ≡ suc (length xs - length (records_begun b)) = omega arith in
-    let turn : step g (shows_end []) (past (length (bytes_begun b)) end_record) ≡ ends = ap (λ t. unless t OutOfTurn ends) (is_complete b all) in
-    clash _ f
-    (sym
-    (walk_after xs (framed end_record) b (suc (length xs)) (sheet_keeps s v) short (omega arith) bytes
-    ∙ ap (λ m. walked m (framed end_record) (length (bytes_begun b)) (length (records_begun b)) g) left
-    ∙ first_step end_record [] g (length (bytes_begun b)) (length (records_begun b)) (length xs - length (records_begun b)) (shows_end []) (record { kind_low = omega arith; length_low = omega arith }) refl
-    ∙ ap (after_step (walked (length xs - length (records_begun b))) g (length (bytes_begun b)) (length (records_begun b)) [] (past (length (bytes_begun b)) end_record)) turn)
-    ∙ e)
-  where
-    clash : (z : Summary) (g : SheetFault) → ◌≡◌ {A = Verdict} (Ok z) (Err g) → ⊥
-    clash z g h = let y : ◌≡◌ {A = ℕ} 0 1 = cc in omega arith
+    no_fault _ f (sym (walk_over xs [] s v (subst (λ ys. length ys ≤ 65535) same v.short) (sym same ∙ sym (append-nil (encode s)))) ∙ e)
 
 -- and they are refused for what the fault says
 why_law : (xs : List ℕ) (f : SheetFault) → length xs ≤ 65535 → walked (suc (length xs)) xs 0 0 nothing_yet ≡ Err f
@@ -270,6 +276,35 @@ why_law xs f short e (inr o) =
       wrong = o.wrong;
     })
 
+-- and for that alone
+alone_law : (xs : List ℕ) (f : SheetFault) → length xs ≤ 65535 → walked (suc (length xs)) xs 0 0 nothing_yet ≡ Err f → (number byte records : ℕ) → Refused xs number byte records → Says f number byte records
+alone_law xs f short e number byte records (too_long m l p n) = absurd (omega arith)
+alone_law xs f short e number byte records (trails m t) =
+    let some : eqb (length t.more) 0 ≡ false = ne_eqb (length t.more) 0 (λ z. t.some (nil_from_length t.more z)) in
+    let at : Says f number (length (encode t.sheet)) (length (records_of t.sheet)) =
+    says number _ f m (sym (walk_over xs t.more t.sheet t.valid short t.same ∙ cond-false (eqb (length t.more) 0) _ _ some) ∙ e) in
+    record { number_is = at.number_is; byte_is = t.byte_is ∙ at.byte_is; records_are = t.records_are ∙ at.records_are }
+alone_law xs f short e number byte records (goes_wrong w) =
+    let b : Begun = w.begun in
+    let few = records_few (records_begun w.begun) in
+    let size = ap length w.same ∙ length-append (bytes_begun w.begun) w.rest in
+    let left : suc (length xs) - length (records_begun w.begun) ≡ suc (length xs - length (records_begun w.begun)) = omega arith in
+    let at : Says f number (length (bytes_begun b)) (length (records_begun b)) =
+    wrong_found b w.keeps (length (bytes_begun b)) (length (records_begun b)) (length xs - length (records_begun b)) number f w.rest w.wrong
+    (sym
+    (walk_after xs w.rest b (suc (length xs)) w.keeps short (omega arith) w.same
+    ∙ ap (λ m. walked m w.rest (length (bytes_begun b)) (length (records_begun b)) (begun_tally b)) left)
+    ∙ e) in
+    record { number_is = at.number_is; byte_is = w.byte_is ∙ at.byte_is; records_are = w.records_are ∙ at.records_are }
+
+-- only too many bytes are too many
+alone_long : (xs : List ℕ) (f : SheetFault) → 65535 < length xs → format_fault TooLong 65535 0 ≡ Err f → (number byte records : ℕ) → Refused xs number byte records → Says f number byte records
+alone_long xs f long e number byte records (too_long m l p n) =
+    let at : Says f number 65535 0 = says number _ f m e in
+    record { number_is = at.number_is; byte_is = p ∙ at.byte_is; records_are = n ∙ at.records_are }
+alone_long xs f long e number byte records (trails m t) = absurd (let s = t.short in omega arith)
+alone_long xs f long e number byte records (goes_wrong w) = absurd (let s = w.short in omega arith)
+
 law : (xs : List ℕ) → Bytes xs → Law xs (verdict xs)
 law xs b = sized (ltb 65535 (length xs)) refl
   where
@@ -288,12 +323,16 @@ law xs b = sized (ltb 65535 (length xs)) refl
 
     by_walk : (r : Verdict) → length xs ≤ 65535 → walked (suc (length xs)) xs 0 0 nothing_yet ≡ r → Told xs r → Law xs r
     by_walk (Ok z) short e t = accepted_law xs z short t
-    by_walk (Err f) short e t = record { no_sheet = refused_law xs f e; why = why_law xs f short e t }
+    by_walk (Err f) short e t = record { no_sheet = refused_law xs f e; why = why_law xs f short e t; alone = alone_law xs f short e }
 
     sized : (t : Bool) → ltb 65535 (length xs) ≡ t → Law xs (cond t (format_fault TooLong 65535 0) (walked (suc (length xs)) xs 0 0 nothing_yet))
     sized true e =
         let l : 65535 < length xs = ltb-true 65535 (length xs) e in
-        record { no_sheet = λ s v same. let k = v.short in let m = ap length same in omega arith; why = too_long refl l refl refl }
+        record {
+          no_sheet = λ s v same. let k = v.short in let m = ap length same in omega arith;
+          why = too_long refl l refl refl;
+          alone = alone_long xs _ l refl;
+        }
     sized false e =
         by_walk (walked (suc (length xs)) xs 0 0 nothing_yet) (ltb-false 65535 (length xs) e) refl (told (suc (length xs)) xs xs nothing_begun nothing_keeps b (omega arith) refl)
 

@@ -13,4 +13,5 @@ pub mod Breaking
 pub mod Forward
 pub mod Sheets
 pub mod Telling
+pub mod Alone
 pub mod Laws

@@ -20,7 +20,7 @@ pick false t next s e = inr e
 never : (s : Shown) → ◌≡◌ {A = Option Shown} None (Some s) → ⊥
 never s e = let z : ◌≡◌ {A = ℕ} 0 1 = cc in omega arith
 
-two_first : (body : List ℕ) → 2 ≤ length body → body ≡ get_or body 0 0 ∷ (get_or body 1 0 ∷ drop 2 body)
+pub two_first : (body : List ℕ) → 2 ≤ length body → body ≡ get_or body 0 0 ∷ (get_or body 1 0 ∷ drop 2 body)
 two_first [] h = absurd (omega arith)
 two_first (x ∷ []) h = absurd (omega arith)
 two_first (x ∷ (y ∷ rest)) h = refl

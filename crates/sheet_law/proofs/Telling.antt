@@ -86,7 +86,7 @@ module _ (bytes xs : List ℕ) (b : Begun) (k : Keeps b) (same : bytes ≡ bytes
   stopped : (cause : _) (s : Shown) (rest : List ℕ) (f : Framed xs here s rest) → step (begun_tally b) s (past here f.raw) ≡ stops cause
       → Told bytes (format_fault cause here count)
   stopped cause s rest f e =
-      let q = breaks cause b k f.raw.kind f.raw.body s (past here f.raw) (kind_is f.raw.kind f.raw.body here s f.shows) e in
+      let q = breaks b k f.raw.kind f.raw.body here (past here f.raw) s cause f.shows e in
       inr
       (record {
         begun = b;

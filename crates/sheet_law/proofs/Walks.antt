@@ -61,10 +61,10 @@ walked_on (r ∷ rs) rest g h place n extra e short =
     ∙ ap (λ m. walked extra rest (place + length (flat_map framed (r ∷ rs))) m h) count
 
 -- a fault of a walk counts the records before it, and perhaps more
-same_fault : (e f : SheetFault) → ◌≡◌ {A = Verdict} (Err e) (Err f) → e ≡ f
+pub same_fault : (e f : SheetFault) → ◌≡◌ {A = Verdict} (Err e) (Err f) → e ≡ f
 same_fault e f h = cc
 
-no_fault : (z : Summary) (f : SheetFault) → ◌≡◌ {A = Verdict} (Ok z) (Err f) → ⊥
+pub no_fault : (z : Summary) (f : SheetFault) → ◌≡◌ {A = Verdict} (Ok z) (Err f) → ⊥
 no_fault z f e = let w : ◌≡◌ {A = ℕ} 0 1 = cc in omega arith
 
 pub later : (most : ℕ) (xs : List ℕ) (place n : ℕ) (g : Tally) (f : SheetFault) → walked most xs place n g ≡ Err f → n ≤ fault_records f
