@@ -1,9 +1,9 @@
 -- What the reader's answers say, as plain data.
-use Rattle.std.specs.Prelude.{◌≡◌, ℕ, List, Ok, Err, Result}
-use Rattle.std.specs.Borrow.{Bor}
+use Rattle.std.specs.Prelude.{◌≡◌, ℕ, ◌+◌, ◌-◌, List, length, Ok, Err, Result}
 use Rattle.sheet_format.specs.declared.faults.Fault.{Fault}
 use Rattle.sheet_format.specs.declared.faults.RecordCause.{RecordCause}
-use Rattle.sheet_format.specs.Reading.{Shown, shows_heading, shows_variable, shows_sum, shows_table, shows_short_table, shows_add, shows_retract, shows_end, Reading, taken, broken}
+use Rattle.sheet_format.specs.Reading.{Shown, shows_heading, shows_variable, shows_sum, shows_table, shows_short_table, shows_add, shows_retract, shows_end, taken, broken, reading}
+use Rattle.sheet.specs.declared.reader.Part.{Part}
 use Rattle.sheet.specs.declared.reader.Record.{Record}
 use Rattle.sheet.specs.declared.reader.Record.TheVariants.{Heading, Variable, Sum, Table, ShortTable, Add, Retract, End}
 
@@ -18,12 +18,17 @@ shown_by (Add body) = shows_add body.now
 shown_by (Retract body) = shows_retract body.now
 shown_by (End body) = shows_end body.now
 
--- What was taken off and what is left, or the cause.
-abbrev pub Taken : Result (Record × Bor (List ℕ)) RecordCause → Reading → Type 0
-Taken (Ok pair) r = r ≡ taken (shown_by pair.0) pair.1.now
-Taken (Err cause) r = r ≡ broken cause
+-- What was taken off the bytes `xs`, which begin at a place, and what is left, which begins so many bytes further on as were taken off.
+pub record TookFrom (xs : List ℕ) (place : ℕ) (found : Record) (rest : Part) : Type 0 where
+  pub reads : reading xs place ≡ taken (shown_by found) rest.bytes.now
+  pub next : rest.place ≡ place + (length xs - length rest.bytes.now)
 
--- The reader's answer, of a record that begins at a place: what was taken and what is left, or the cause, with that very place.
-abbrev pub Answers : ℕ → Result (Record × Bor (List ℕ)) (Fault RecordCause) → Reading → Type 0
-Answers place (Ok pair) r = r ≡ taken (shown_by pair.0) pair.1.now
-Answers place (Err fault) r = (r ≡ broken fault.cause) × (fault.byte ≡ place)
+-- what was taken off and what is left, or the cause
+abbrev pub Taken : List ℕ → ℕ → Result (Record × Part) RecordCause → Type 0
+Taken xs place (Ok pair) = TookFrom xs place pair.0 pair.1
+Taken xs place (Err cause) = reading xs place ≡ broken cause
+
+-- the reader's answer: the same, and a fault has the very place at which the bytes begin
+abbrev pub Answers : List ℕ → ℕ → Result (Record × Part) (Fault RecordCause) → Type 0
+Answers xs place (Ok pair) = TookFrom xs place pair.0 pair.1
+Answers xs place (Err fault) = (reading xs place ≡ broken fault.cause) × (fault.byte ≡ place)

@@ -45,19 +45,19 @@ impl<'a> Walk<'a> {
             records,
         } = self;
         let (taken, rest) = after_records(read_record(input, place), records)?;
-        let end = place + (input.len() - rest.len()) as u32;
+        let end = rest.place as u32;
         let flow = progress
             .admit(taken, end)
             .map_err(|cause| refused(cause, place, records))?;
         match flow {
             ControlFlow::Continue(progress) => Ok(ControlFlow::Continue(Walk {
                 progress,
-                input: rest,
+                input: rest.bytes,
                 place: end,
                 records: records + 1,
             })),
             ControlFlow::Break(summary) => {
-                if !rest.is_empty() {
+                if !rest.bytes.is_empty() {
                     return Err(refused(Cause::Trailing, end, records + 1));
                 }
                 Ok(ControlFlow::Break(summary))
@@ -85,7 +85,8 @@ fn walk_through(sheet: &[u8]) -> Result<Summary, SheetFault>
     }
 }
 
-// Accepts a sheet, or finds its first fault. It accepts just the encodings of valid sheets.
+// Accepts a sheet, or finds its first fault. It accepts just the encodings of valid sheets; the bytes before a fault are the longest beginning of
+// one, and as many records as it counts.
 pub fn check(sheet: &[u8]) -> Result<Summary, SheetFault>
     ensures verdict { result ≡ verdict sheet.now }
     ensures law { Law sheet.now result }

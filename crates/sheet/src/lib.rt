@@ -11,4 +11,4 @@ mod reader;
 pub use accepted::Accepted;
 pub use checking::check;
 pub use formula::Formula;
-pub use reader::{Record, Rows, read_record};
+pub use reader::{Part, Record, read_record};

@@ -1,14 +1,14 @@
 // Taking one record off the bytes that are left of a sheet.
-ghost use Rattle.std.specs.Prelude.{◌≡◌};
+ghost use Rattle.std.specs.Prelude.{◌≡◌, ◌+◌, ◌≤◌, length, drop};
 ghost use Rattle.sheet_format.specs.Kinds.{kind_number};
-ghost use Rattle.sheet_format.specs.Reading.{reading, shown, shown_table};
+ghost use Rattle.sheet_format.specs.Reading.{shown, shown_table};
 ghost use Rattle.sheet.specs.Outcome.{Answers, Taken, shown_by};
 
 use sheet_format::{Kind, RecordCause, RecordFault, word};
 
-// The rows of a table as they stand in the sheet, and the byte of the sheet at which they begin.
+// Some bytes of a sheet, and the byte of the sheet at which they begin.
 #[derive(Clone, Copy)]
-pub struct Rows<'a> {
+pub struct Part<'a> {
     pub bytes: &'a [u8],
     pub place: usize,
 }
@@ -20,16 +20,15 @@ pub enum Record<'a> {
     Heading(&'a [u8]),
     Variable(&'a [u8]),
     Sum(&'a [u8]),
-    Table { left: u8, right: u8, rows: Rows<'a> },
+    Table { left: u8, right: u8, rows: Part<'a> },
     ShortTable(&'a [u8]),
     Add(&'a [u8]),
     Retract(&'a [u8]),
     End(&'a [u8]),
 }
 
-// A table constraint that begins at `place`: its ends and its rows, or its body where that is too short for both ends.
-// The place is handed down beside the bytes, with no struct of both: the public `read_record` is given the two apart, and the public `Rows` has a
-// place of its own, six bytes on, beside other bytes.
+// A table constraint that begins at `place`: its ends and its rows, or its body where that is too short for both ends. The place is handed down
+// beside the body, with no struct of both: the body begins four bytes after it.
 fn table_record(body: &[u8], place: u32) -> Record<'_>
     ensures { shown_by result ≡ shown_table body.now place }
 {
@@ -37,7 +36,7 @@ fn table_record(body: &[u8], place: u32) -> Record<'_>
         [left, right, bytes @ ..] => Record::Table {
             left: *left,
             right: *right,
-            rows: Rows {
+            rows: Part {
                 bytes,
                 place: place as usize + 6,
             },
@@ -61,9 +60,21 @@ fn record_of(kind: Kind, body: &[u8], place: u32) -> Record<'_>
     }
 }
 
+// what is left of bytes that begin at `place` after the first so many of them
+fn rest_after(input: &[u8], place: u32, many: usize) -> Part<'_>
+    requires { many ≤ length input.now }
+    ensures left { result.bytes.now ≡ drop many input.now }
+    ensures next { result.place ≡ place + many }
+{
+    Part {
+        bytes: &input[many..],
+        place: place as usize + many,
+    }
+}
+
 // the record that `input` begins with, and what follows it
-fn take_record(input: &[u8], place: u32) -> Result<(Record<'_>, &[u8]), RecordCause>
-    ensures { Taken result (reading input.now place) }
+fn take_record(input: &[u8], place: u32) -> Result<(Record<'_>, Part<'_>), RecordCause>
+    ensures { Taken input.now place result }
 {
     if input.is_empty() {
         return Err(RecordCause::Missing);
@@ -76,13 +87,13 @@ fn take_record(input: &[u8], place: u32) -> Result<(Record<'_>, &[u8]), RecordCa
         return Err(RecordCause::BadLength);
     }
     let kind = Kind::try_from(word(input, 2))?;
-    let (record, rest) = input.split_at(length);
-    Ok((record_of(kind, &record[4..], place), rest))
+    let record = record_of(kind, &input[4..length], place);
+    Ok((record, rest_after(input, place, length)))
 }
 
-// Takes one record off `input`, which begins at the byte `place` of its sheet, and hands back what follows it.
-pub fn read_record(input: &[u8], place: u32) -> Result<(Record<'_>, &[u8]), RecordFault>
-    ensures { Answers place result (reading input.now place) }
+// Takes one record off `input`, which begins at the byte `place` of its sheet, and hands back what follows it, with the place of that.
+pub fn read_record(input: &[u8], place: u32) -> Result<(Record<'_>, Part<'_>), RecordFault>
+    ensures { Answers input.now place result }
 {
     take_record(input, place).map_err(|cause| RecordFault { cause, byte: place })
 }

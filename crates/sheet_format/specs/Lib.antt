@@ -6,5 +6,7 @@ pub mod Encoding
 pub mod Reading
 pub mod Verdict
 pub mod Decoding
+pub mod Beginnings
+pub mod Rules
 pub mod Law
 pub mod Lines

@@ -1,37 +1,41 @@
--- The records of a valid sheet run to the end.
-use Rattle.std.proofs.Common.{◌≡◌, ℕ, ◌+◌, ◌*◌, ◌<◌, ◌≤◌, Bool, true, false, not, eqb, ltb, List, [], ◌∷◌, ◌++◌, map, length, ℤ, Some, sym, refl, ap, ◌∙◌, subst, inl, inr, arith}
+-- The walk goes on through the records of a beginning of a sheet.
+use Rattle.std.proofs.Common.{◌≡◌, ℕ, zero, suc, ◌+◌, ◌*◌, ◌<◌, ◌≤◌, Bool, true, false, not, eqb, ltb, List, [], ◌∷◌, ◌++◌, map, length, ℤ, Some, sym, refl, ap, ◌∙◌, subst, zero-add, arith}
 use Rattle.std.specs.List.{flat_map, AllByRecursion}
+use Rattle.std.proofs.lemmas.Grind.{flat_map-append}
 use Rattle.std.proofs.lemmas.List.{append_assoc, append-nil, length-append}
 use Rattle.std.proofs.ByRecursion.{All-get_or}
 use Rattle.std.proofs.lemmas.Bool.{lt-ltb, le-ltb, eq-eqb, and_from, not_from_false, cond-false}
 use Rattle.sheet_format.specs.declared.faults.Cause.{Cause}
-use Rattle.sheet_format.specs.declared.faults.Cause.TheVariants.{OutOfTurn}
 use Rattle.sheet_format.specs.declared.found.Variable.{Variable}
 use Rattle.sheet_format.specs.Numbers.{two, eight, number2}
-use Rattle.sheet_format.specs.Value.{Constraint, sum, table, Move, add, retract, Sheet, no_variable, size_at, ValidVariable, HousesDiffer, ValidSum, ValidTable, ValidConstraint, ValidMove}
-use Rattle.sheet_format.specs.Encoding.{Raw, framed, heading_record, variable_record, constraint_record, move_record, end_record, records_of, Valid}
-use Rattle.sheet_format.specs.Reading.{Shown, shows_heading, shows_variable, shows_sum, shows_table, shows_add, shows_retract, shows_end, shown}
-use Rattle.sheet_format.specs.Verdict.{Tally, nothing_yet, Step, goes, ends, unless, step, complete, constraints_due, between, used, house_good, ends_good, sum_body_good, rows_good, variable_of, with_move}
+use Rattle.sheet_format.specs.Value.{Constraint, sum, table, Move, add, retract, no_variable, size_at, ValidVariable, HousesDiffer, ValidSum, ValidTable, ValidConstraint, ValidMove}
+use Rattle.sheet_format.specs.Encoding.{Raw, framed, heading_record, variable_record, constraint_record, move_record}
+use Rattle.sheet_format.specs.Beginnings.{Begun, records_begun, Keeps}
+use Rattle.sheet_format.specs.Reading.{Shown, shows_heading, shows_variable, shows_sum, shows_table, shows_add, shows_retract, shown}
+use Rattle.sheet_format.specs.Verdict.{Tally, nothing_yet, Step, goes, unless, step, complete, constraints_due, between, used, house_good, ends_good, sum_body_good, rows_good, variable_of, with_move}
 use Rattle.sheet_law.proofs.NumberLaws.{two_back}
-use Rattle.sheet_law.proofs.Framing.{framed-length}
-use Rattle.sheet_law.proofs.Walks.{past, Runs}
+use Rattle.sheet_law.proofs.Framing.{variables_long}
+use Rattle.sheet_law.proofs.Tallies.{past, begun_tally, same_tally, headed, nothing_there}
+use Rattle.sheet_law.proofs.Walks.{Reaches, past_all, reaches_more}
 use Rattle.sheet_law.proofs.Rows.{rows_there}
 use Rattle.sheet_law.proofs.Items.{is_between, valid_ends, sum_there}
 use Rattle.sheet_law.proofs.Houses.{fresh}
-use Rattle.sheet_law.proofs.Backward.{tally}
+
+abbrev tally : ℕ → List Variable → ℕ → ℕ → ℕ → Tally
+tally n vs constraints moves reached = record { n = n; variables = vs; constraints = constraints; moves = moves; reached = reached }
 
 pass : (b : Bool) (cause : Cause) (next : Step) (h : Tally) → b ≡ true → next ≡ goes h → unless b cause next ≡ goes h
 pass true cause next h e f = f
 pass false cause next h e f = absurd (let z : ◌≡◌ {A = ℕ} 0 1 = cc in omega arith)
 
--- one record that goes on, before others
-before : (g h k : Tally) (place : ℕ) (r : Raw) (s : Shown) (rs : List Raw) → shown r.kind r.body place ≡ Some s → step g s (past place r) ≡ goes h → Runs h (past place r) rs k → Runs g place (r ∷ rs) k
-before g h k place r s rs e f run = (s, e, inr (h, f, run))
-
 -- all variables are there
-complete_is : (n c m p : ℕ) (vs : List Variable) → 1 ≤ n → length vs ≡ n → complete (tally n vs c m p) ≡ true
-complete_is n c m p vs some all =
+complete_tally : (n c m p : ℕ) (vs : List Variable) → 1 ≤ n → length vs ≡ n → complete (tally n vs c m p) ≡ true
+complete_tally n c m p vs some all =
     and_from (ltb 0 n) (not (ltb (length vs) n)) (lt-ltb 0 n some) (not_from_false (ltb (length vs) n) (le-ltb (length vs) n (omega arith)))
+
+-- the heading and all its variables are there
+abbrev Due : ℕ → List Variable → Type 0
+Due n vs = (1 ≤ n) × (length vs ≡ n)
 
 -- a record that shows something with which a tally goes on
 abbrev Goes : Tally → ℕ → Raw → Tally → Type 0
@@ -42,35 +46,24 @@ move_goes : (q : Move) (g : Tally) (place : ℕ) → complete g ≡ true → Goe
 move_goes (add q) g place all = (shows_add (two q), refl, pass (complete g) _ _ _ all refl)
 move_goes (retract q) g place all = (shows_retract (two q), refl, pass (complete g) _ _ _ all refl)
 
--- moves, then the end
-pub moves_there : (ms : List Move) (n c m p place : ℕ) (vs : List Variable) → 1 ≤ n → length vs ≡ n → AllByRecursion ValidMove ms
-    → Runs (tally n vs c m p) place (map move_record ms ++ (end_record ∷ [])) (tally n vs c (m + length ms) p)
-moves_there [] n c m p place vs some all valid =
-    let same : m + 0 ≡ m = omega arith in (
-      shows_end [],
-      refl,
-      inl
-          (record {
-            ended = ap (λ b. unless b OutOfTurn ends) (complete_is n c m p vs some all);
-            alone = refl;
-            same = ap (λ x. tally n vs c x p) same;
-          }),
-    )
-moves_there (q ∷ ms) n c m p place vs some all valid =
+-- moves
+moves_reach : (ms : List Move) (n c m p place : ℕ) (vs : List Variable) → (1 ≤ length ms → Due n vs) → AllByRecursion ValidMove ms
+    → Reaches (tally n vs c m p) place (map move_record ms) (tally n vs c (m + length ms) p)
+moves_reach [] n c m p place vs due valid = let same : m ≡ m + 0 = omega arith in ap (λ x. tally n vs c x p) same
+moves_reach (q ∷ ms) n c m p place vs due valid =
     let same : m + 1 + length ms ≡ m + length (q ∷ ms) = omega arith in
-    let one = move_goes q (tally n vs c m p) place (complete_is n c m p vs some all) in
-    before (tally n vs c m p) (tally n vs c (m + 1) p) _ place (move_record q) one.0 (map move_record ms ++ (end_record ∷ [])) one.1 one.2
-    (subst (λ x. Runs (tally n vs c (m + 1) p) (past place (move_record q)) (map move_record ms ++ (end_record ∷ [])) (tally n vs c x p)) same (moves_there ms n c (m + 1) p (past place (move_record q)) vs some all valid.1))
-
--- the place after one record more
-past_all : (place : ℕ) (r : Raw) (rs : List Raw) → past place r + length (flat_map framed rs) ≡ place + length (flat_map framed (r ∷ rs))
-past_all place r rs = let l = framed-length r (flat_map framed rs) in omega arith
+    let all : Due n vs = due (omega arith) in
+    let one = move_goes q (tally n vs c m p) place (complete_tally n c m p vs all.0 all.1) in (
+      one.0,
+      one.1,
+      (tally n vs c (m + 1) p, one.2, subst (λ x. Reaches (tally n vs c (m + 1) p) (past place (move_record q)) (map move_record ms) (tally n vs c x p)) same (moves_reach ms n c (m + 1) p (past place (move_record q)) vs (λ _. all) valid.1)),
+    )
 
 -- a valid constraint goes on
 sum_goes : (n c place after a b : ℕ) (vs : List Variable) (m k lo hi : ℤ) → 1 ≤ n → length vs ≡ n → c < 96 → ValidSum (length vs) a b m k lo hi
     → step (tally n vs c 0 place) (shows_sum (constraint_record (sum a b m k lo hi)).body) after ≡ goes (tally n vs (c + 1) 0 after)
 sum_goes n c place after a b vs m k lo hi some all few v =
-    pass (constraints_due (tally n vs c 0 place)) _ _ _ (and_from _ _ (complete_is n c 0 place vs some all) refl)
+    pass (constraints_due (tally n vs c 0 place)) _ _ _ (and_from _ _ (complete_tally n c 0 place vs some all) refl)
     (pass (ltb c 96) _ _ _ (lt-ltb c 96 few)
     (pass (ends_good n a b) _ _ _ (subst (λ x. ends_good x a b ≡ true) all (valid_ends (length vs) a b v.ends))
     (pass (sum_body_good (constraint_record (sum a b m k lo hi)).body) _ _ _ (sum_there (length vs) a b m k lo hi v).1 refl)))
@@ -83,7 +76,7 @@ table_goes : (n c place after a b : ℕ) (vs : List Variable) (rows : List ℕ) 
 table_goes n c place after a b vs rows some all few valid v at =
     let there = rows_there (size_at vs b) rows [] (size_low n vs b valid v.ends.b_low) v.low_bits in
     let good : rows_good (length rows) (size_at vs b) (flat_map eight rows) ≡ true = subst (λ xs. rows_good (length rows) (size_at vs b) xs ≡ true) (append-nil (flat_map eight rows)) there.0 in
-    pass (constraints_due (tally n vs c 0 place)) _ _ _ (and_from _ _ (complete_is n c 0 place vs some all) refl)
+    pass (constraints_due (tally n vs c 0 place)) _ _ _ (and_from _ _ (complete_tally n c 0 place vs some all) refl)
     (pass (ltb c 96) _ _ _ (lt-ltb c 96 few)
     (pass (ends_good n a b) _ _ _ (subst (λ x. ends_good x a b ≡ true) all (valid_ends (length vs) a b v.ends))
     (pass (eqb (length (flat_map eight rows)) (8 * size_at vs a)) _ _ _ (eq-eqb _ _ (there.2 ∙ ap (λ x. 8 * x) v.a_row_each))
@@ -98,22 +91,27 @@ constraint_goes (sum a b m l lo hi) n c place vs some all few valid v = (shows_s
 constraint_goes (table a b rows) n c place vs some all few valid v =
     (shows_table a b (flat_map eight rows) (place + 6), table_shown a b place rows, table_goes n c place _ a b vs rows some all few valid v (place + 6))
 
-pub constraints_there : (cs : List Constraint) (n c place : ℕ) (vs : List Variable) (rest : List Raw) (k : Tally) → 1 ≤ n → length vs ≡ n → AllByRecursion (ValidVariable n) vs → AllByRecursion (ValidConstraint vs) cs → c + length cs ≤ 96
-    → Runs (tally n vs (c + length cs) 0 (place + length (flat_map framed (map constraint_record cs)))) (place + length (flat_map framed (map constraint_record cs))) rest k
-    → Runs (tally n vs c 0 place) place (map constraint_record cs ++ rest) k
-constraints_there [] n c place vs rest k some all valid good few run =
-    let e : c + 0 ≡ c = omega arith in
-    let f : place + 0 ≡ place = omega arith in
-    subst (λ x. Runs (tally n vs x 0 place) place rest k) e (subst (λ p. Runs (tally n vs (c + 0) 0 p) p rest k) f run)
-constraints_there (d ∷ cs) n c place vs rest k some all valid good few run =
+constraints_reach : (cs : List Constraint) (n c place : ℕ) (vs : List Variable) → (1 ≤ length cs → Due n vs) → AllByRecursion (ValidVariable n) vs → AllByRecursion (ValidConstraint vs) cs → c + length cs ≤ 96
+    → Reaches (tally n vs c 0 place) place (map constraint_record cs) (tally n vs (c + length cs) 0 (place + length (flat_map framed (map constraint_record cs))))
+constraints_reach [] n c place vs due valid good few =
+    let e : c ≡ c + 0 = omega arith in
+    let f : place ≡ place + 0 = omega arith in
+    ap (λ x. tally n vs x 0 place) e ∙ ap (tally n vs (c + 0) 0) f
+constraints_reach (d ∷ cs) n c place vs due valid good few =
     let r : Raw = constraint_record d in
     let q : ℕ = past place (constraint_record d) in
-    let e : c + length (d ∷ cs) ≡ c + 1 + length cs = omega arith in
-    let one = constraint_goes d n c place vs some all (omega arith) valid good.0 in
-    before (tally n vs c 0 place) (tally n vs (c + 1) 0 q) k place r one.0 (map constraint_record cs ++ rest) one.1 one.2
-    (constraints_there cs n (c + 1) q vs rest k some all valid good.1 (omega arith)
-    (subst (λ x. Runs (tally n vs x 0 (q + length (flat_map framed (map constraint_record cs)))) (q + length (flat_map framed (map constraint_record cs))) rest k) e
-    (subst (λ p. Runs (tally n vs (c + length (d ∷ cs)) 0 p) p rest k) (sym (past_all place r (map constraint_record cs))) run)))
+    let e : c + 1 + length cs ≡ c + length (d ∷ cs) = omega arith in
+    let all : Due n vs = due (omega arith) in
+    let one = constraint_goes d n c place vs all.0 all.1 (omega arith) valid good.0 in (
+      one.0,
+      one.1,
+      (
+        tally n vs (c + 1) 0 q,
+        one.2,
+        subst (λ p. Reaches (tally n vs (c + 1) 0 q) q (map constraint_record cs) (tally n vs (c + length (d ∷ cs)) 0 p)) (past_all place r (map constraint_record cs))
+            (subst (λ x. Reaches (tally n vs (c + 1) 0 q) q (map constraint_record cs) (tally n vs x 0 (q + length (flat_map framed (map constraint_record cs))))) e (constraints_reach cs n (c + 1) q vs (λ _. all) valid good.1 (omega arith))),
+      ),
+    )
 
 -- a valid variable reads back from its record
 pub variable_again : (n : ℕ) (v : Variable) → n ≤ 32 → ValidVariable n v → variable_of (variable_record v).body ≡ v
@@ -139,42 +137,80 @@ variable_goes n place after us v small due valid new =
     (subst (λ x. house_good (tally n us 0 0 place) x ≡ true) (sym house) (and_from _ _ (lt-ltb _ _ low) (not_from_false _ new)))
     (ap (λ x. goes (tally n (us ++ (x ∷ [])) 0 0 after)) same)))
 
-pub variables_there : (vs : List Variable) (n place : ℕ) (us : List Variable) (rest : List Raw) (k : Tally) → n ≤ 32 → length us + length vs ≤ n → AllByRecursion (ValidVariable n) vs → HousesDiffer (us ++ vs)
-    → Runs (tally n (us ++ vs) 0 0 (place + 8 * length vs)) (place + 8 * length vs) rest k
-    → Runs (tally n us 0 0 place) place (map variable_record vs ++ rest) k
-variables_there [] n place us rest k small room valid differ run =
-    let f : place + 8 * 0 ≡ place = omega arith in
-    subst (λ ws. Runs (tally n ws 0 0 place) place rest k) (append-nil us) (subst (λ p. Runs (tally n (us ++ []) 0 0 p) p rest k) f run)
-variables_there (v ∷ vs) n place us rest k small room valid differ run =
-    let regroup : us ++ (v ∷ vs) ≡ (us ++ (v ∷ [])) ++ vs = sym (append_assoc us (v ∷ []) vs) in
-    let far : place + 8 * length (v ∷ vs) ≡ place + 8 + 8 * length vs = omega arith in
+variables_reach : (vs : List Variable) (n place : ℕ) (us : List Variable) → n ≤ 32 → length us + length vs ≤ n → AllByRecursion (ValidVariable n) vs → HousesDiffer (us ++ vs)
+    → Reaches (tally n us 0 0 place) place (map variable_record vs) (tally n (us ++ vs) 0 0 (place + 8 * length vs))
+variables_reach [] n place us small few valid differ =
+    let f : place ≡ place + 8 * 0 = omega arith in
+    ap (λ ws. tally n ws 0 0 place) (sym (append-nil us)) ∙ ap (tally n (us ++ []) 0 0) f
+variables_reach (v ∷ vs) n place us small few valid differ =
+    let regroup : (us ++ (v ∷ [])) ++ vs ≡ us ++ (v ∷ vs) = append_assoc us (v ∷ []) vs in
+    let far : place + 8 + 8 * length vs ≡ place + 8 * length (v ∷ vs) = omega arith in
     let many = length-append us (v ∷ []) in
-    before (tally n us 0 0 place) (tally n (us ++ (v ∷ [])) 0 0 (place + 8)) k place (variable_record v) (shows_variable (variable_record v).body) (map variable_record vs ++ rest) refl
-    (variable_goes n place (place + 8) us v small (omega arith) valid.0 (fresh us v vs differ))
-    (variables_there vs n (place + 8) (us ++ (v ∷ [])) rest k small (omega arith) valid.1 (subst HousesDiffer regroup differ)
-    (subst (λ p. Runs (tally n ((us ++ (v ∷ [])) ++ vs) 0 0 p) p rest k) far (subst (λ ws. Runs (tally n ws 0 0 (place + 8 * length (v ∷ vs))) (place + 8 * length (v ∷ vs)) rest k) regroup run)))
+    let g : Tally = tally n (us ++ (v ∷ [])) 0 0 (place + 8) in (
+      shows_variable (variable_record v).body,
+      refl,
+      (
+        g,
+        variable_goes n place (place + 8) us v small (omega arith) valid.0 (fresh us v vs differ),
+        subst (λ ws. Reaches g (place + 8) (map variable_record vs) (tally n ws 0 0 (place + 8 * length (v ∷ vs)))) regroup
+            (subst (λ p. Reaches g (place + 8) (map variable_record vs) (tally n ((us ++ (v ∷ [])) ++ vs) 0 0 p)) far
+            (variables_reach vs n (place + 8) (us ++ (v ∷ [])) small (omega arith) valid.1 (subst HousesDiffer (sym regroup) differ))),
+      ),
+    )
 
 heading_goes : (n : ℕ) → 1 ≤ n → n ≤ 32 → step nothing_yet (shows_heading (heading_record n).body) 8 ≡ goes (tally n [] 0 0 8)
 heading_goes n some few =
     let here : number2 (heading_record n).body 2 ≡ n = two_back n [] (omega arith) in
     pass (between 1 32 (number2 (heading_record n).body 2)) _ _ _ (subst (λ x. between 1 32 x ≡ true) (sym here) (is_between 1 32 n some few)) (ap (λ x. goes (tally x [] 0 0 8)) here)
 
--- the last tally of a sheet
-abbrev pub last_tally : Sheet → Tally
-last_tally s =
-    tally (length s.variables) s.variables (length s.constraints) (length s.moves)
-    (8 + 8 * length s.variables + length (flat_map framed (map constraint_record s.constraints)))
+-- the place before the moves of a beginning
+pub reached_is : (b : Begun) → 1 ≤ b.n → (begun_tally b).reached ≡ 8 + 8 * length b.variables + length (flat_map framed (map constraint_record b.constraints))
+reached_is b some =
+    let vars : List Raw = map variable_record b.variables in
+    let cons : List Raw = map constraint_record b.constraints in
+    let l = variables_long b.variables in
+    let m = length-append (flat_map framed (map variable_record b.variables)) (flat_map framed (map constraint_record b.constraints)) in
+    let split = flat_map-append framed (map variable_record b.variables) (map constraint_record b.constraints) in
+    let n = ap length split in
+    ap (λ hs. length (flat_map framed (hs ++ (vars ++ (cons ++ []))))) (headed b.n some)
+    ∙ ap (λ rs. length (flat_map framed (heading_record b.n ∷ (vars ++ rs)))) (append-nil cons)
+    ∙ omega arith
 
-pub sheet_runs : (s : Sheet) → Valid s → Runs nothing_yet 0 (records_of s) (last_tally s)
-sheet_runs s v =
-    let n : ℕ = length s.variables in
-    let p : ℕ = 8 + 8 * length s.variables + length (flat_map framed (map constraint_record s.constraints)) in
-    before nothing_yet (tally n [] 0 0 8) (last_tally s) 0 (heading_record n) (shows_heading (heading_record n).body) _ refl
-    (heading_goes n v.some_variables v.few_variables)
-    (variables_there s.variables n 8 [] _ (last_tally s) v.few_variables (omega arith) v.variables_valid v.houses_differ
-    (constraints_there s.constraints n 0 (8 + 8 * n) s.variables _ (last_tally s) v.some_variables refl v.variables_valid v.constraints_valid (let f = v.few_constraints in omega arith)
-    (let none : 0 + length s.constraints ≡ length s.constraints = omega arith in
-    subst (λ c. Runs (tally n s.variables c 0 p) p (map move_record s.moves ++ (end_record ∷ [])) (last_tally s)) (sym none)
-    (let zero_moves : 0 + length s.moves ≡ length s.moves = omega arith in
-    subst (λ m. Runs (tally n s.variables (length s.constraints) 0 p) p (map move_record s.moves ++ (end_record ∷ [])) (tally n s.variables (length s.constraints) m p)) zero_moves
-    (moves_there s.moves n (length s.constraints) 0 p p s.variables v.some_variables refl v.moves_valid)))))
+-- the records of a beginning reach its tally
+pub begun_reaches : (b : Begun) → Keeps b → Reaches nothing_yet 0 (records_begun b) (begun_tally b)
+begun_reaches b k = by b.n refl
+  where
+    after_heading : 1 ≤ b.n → Reaches nothing_yet 0 (records_begun b) (begun_tally b)
+    after_heading some =
+        let n : ℕ = b.n in
+        let vs : List Variable = b.variables in
+        let vars : List Raw = map variable_record b.variables in
+        let cons : List Raw = map constraint_record b.constraints in
+        let movs : List Raw = map move_record b.moves in
+        let count : ℕ = length b.constraints in
+        let q : ℕ = 8 + 8 * length b.variables in
+        let p : ℕ = 8 + 8 * length b.variables + length (flat_map framed (map constraint_record b.constraints)) in
+        let g : Tally = tally n [] 0 0 8 in
+        let h : Tally = tally n vs 0 0 q in
+        let i : Tally = tally n vs (0 + count) 0 p in
+        let j : Tally = tally n vs (0 + count) (0 + length b.moves) p in
+        let heading : Reaches nothing_yet 0 (heading_record n ∷ []) g = (shows_heading (heading_record n).body, refl, (g, heading_goes n some k.n_low, refl)) in
+        let variables : Reaches g 8 vars h = variables_reach vs n 8 [] k.n_low (let l = k.few_variables in omega arith) k.variables_valid k.houses_differ in
+        let constraints : Reaches h q cons i = constraints_reach b.constraints n 0 q vs (λ l. there (omega arith)) k.variables_valid k.constraints_valid (let l = k.few_constraints in omega arith) in
+        let moves : Reaches i p movs j = moves_reach b.moves n (0 + count) 0 p p vs (λ l. there (omega arith)) k.moves_valid in
+        let long = variables_long b.variables in
+        let far : q ≡ 8 + length (flat_map framed (map variable_record b.variables)) = omega arith in
+        let tail : Reaches h q (cons ++ movs) j = reaches_more cons movs h i j q constraints moves in
+        let all : Reaches nothing_yet 0 (heading_record n ∷ (vars ++ (cons ++ movs))) j =
+        reaches_more (heading_record n ∷ []) (vars ++ (cons ++ movs)) nothing_yet g j 0 heading
+        (reaches_more vars (cons ++ movs) g h j 8 variables (subst (λ x. Reaches h x (cons ++ movs) j) far tail)) in
+        subst (λ hs. Reaches nothing_yet 0 (hs ++ (vars ++ (cons ++ movs))) (begun_tally b)) (sym (headed n some))
+        (subst (Reaches nothing_yet 0 (heading_record n ∷ (vars ++ (cons ++ movs))))
+        (same_tally _ _ _ _ _ _ _ _ _ _ refl refl (zero-add count) (zero-add (length b.moves)) (sym (reached_is b some))) all)
+      where
+        there : 1 ≤ length b.constraints + length b.moves → Due b.n b.variables
+        there l = let a = k.in_turn l in (a.headed, a.all)
+
+    by : (n : ℕ) → b.n ≡ n → Reaches nothing_yet 0 (records_begun b) (begun_tally b)
+    by zero e = subst (λ c. Reaches nothing_yet 0 (records_begun c) (begun_tally c)) (sym (nothing_there b k e)) refl
+    by (suc m) e = after_heading (omega arith)

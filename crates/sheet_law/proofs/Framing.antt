@@ -11,7 +11,7 @@ use Rattle.sheet_format.specs.Reading.{Shown, shown, Reading, taken, broken, tak
 use Rattle.sheet_law.proofs.NumberLaws.{two_back, Bytes, word_at}
 
 -- the bytes of a record's body, and those after it, cut from what follows the head
-body_cut : (xs : List ℕ) (n : ℕ) → 4 ≤ n → take (n - 4) (drop 4 xs) ≡ drop 4 (take n xs)
+pub body_cut : (xs : List ℕ) (n : ℕ) → 4 ≤ n → take (n - 4) (drop 4 xs) ≡ drop 4 (take n xs)
 body_cut xs n h = sym (drop-take 4 (n - 4) xs) ∙ ap (λ k. drop 4 (take k xs)) (omega arith)
 
 rest_cut : (xs : List ℕ) (n : ℕ) → 4 ≤ n → drop (n - 4) (drop 4 xs) ≡ drop n xs
@@ -103,6 +103,37 @@ framed_read r rest place short =
     (ap (λ k. shown k (drop 4 (take n xs)) place) f.1 ∙ ap (λ b. shown r.kind b place) f.2)
     ∙ ap (taken_if (shown r.kind r.body place)) f.3
 
+-- bytes whose first two say a length that they have are a framed record and what follows it
+pub record Cut (xs : List ℕ) (long : ℕ) : Type 0 where
+  pub raw : Raw
+  pub kind : raw.kind ≡ number2 xs 2
+  pub body : raw.body ≡ drop 4 (take long xs)
+  pub short : Short raw
+  pub bytes : Bytes raw.body
+  pub same : xs ≡ framed raw ++ drop long xs
+
+pub cut_again : (xs : List ℕ) (long : ℕ) → Bytes xs → 4 ≤ long → long ≤ length xs → number2 xs 0 ≡ long → Cut xs long
+cut_again xs long b low most says =
+    let body : List ℕ = drop 4 (take long xs) in
+    let head = word_at xs 0 b (omega arith) in
+    let kind = word_at xs 2 b (omega arith) in
+    let cut = length-take long xs in
+    let many = length-drop 4 (take long xs) in
+    let whole : number2 xs 0 ≡ 4 + length (drop 4 (take long xs)) = omega arith in
+    let after : drop 4 xs ≡ body ++ drop long xs =
+    sym (take-append-drop (long - 4) (drop 4 xs)) ∙ ap (λ ys. ys ++ drop (long - 4) (drop 4 xs)) (body_cut xs long low) ∙ ap (λ ys. body ++ ys) (rest_cut xs long low) in
+    record {
+      raw = record { kind = number2 xs 2; body = body };
+      kind = refl;
+      body = refl;
+      short = record { kind_low = kind.1; length_low = (let h = head.1 in omega arith) };
+      bytes = All-drop (λ x. x < 256) 4 (take long xs) (All-take (λ x. x < 256) long xs b);
+      same =
+          head.0
+          ∙ ap (λ ys. two (number2 xs 0) ++ ys) (kind.0 ∙ ap (λ ys. two (number2 xs 2) ++ ys) after)
+          ∙ ap (λ n. two n ++ (two (number2 xs 2) ++ (body ++ drop long xs))) whole;
+    }
+
 -- the first record that a reading took, framed again
 pub record Framed (xs : List ℕ) (place : ℕ) (s : Shown) (rest : List ℕ) : Type 0 where
   pub raw : Raw
@@ -113,26 +144,11 @@ pub record Framed (xs : List ℕ) (place : ℕ) (s : Shown) (rest : List ℕ) : 
 
 pub framed_again : (xs : List ℕ) (place : ℕ) (s : Shown) (rest : List ℕ) → Bytes xs → Took xs place s rest → Framed xs place s rest
 framed_again xs place s rest b t =
-    let low : 4 ≤ t.long = t.at_least in
-    let most : t.long ≤ length xs = t.at_most in
-    let says : number2 xs 0 ≡ t.long = t.says in
-    let body : List ℕ = drop 4 (take t.long xs) in
-    let head = word_at xs 0 b (omega arith) in
-    let kind = word_at xs 2 b (omega arith) in
-    let cut = length-take t.long xs in
-    let many = length-drop 4 (take t.long xs) in
-    let long : number2 xs 0 ≡ 4 + length (drop 4 (take t.long xs)) = omega arith in
-    let after : drop 4 xs ≡ body ++ rest =
-    sym (take-append-drop (t.long - 4) (drop 4 xs))
-    ∙ ap (λ ys. ys ++ drop (t.long - 4) (drop 4 xs)) (body_cut xs t.long low)
-    ∙ ap (λ ys. body ++ ys) (rest_cut xs t.long low ∙ sym t.leaves) in
+    let c : Cut xs t.long = cut_again xs t.long b t.at_least t.at_most t.says in
     record {
-      raw = record { kind = number2 xs 2; body = body };
-      short = record { kind_low = kind.1; length_low = (let h = head.1 in omega arith) };
-      bytes = All-drop (λ x. x < 256) 4 (take t.long xs) (All-take (λ x. x < 256) t.long xs b);
-      same =
-          head.0
-          ∙ ap (λ ys. two (number2 xs 0) ++ ys) (kind.0 ∙ ap (λ ys. two (number2 xs 2) ++ ys) after)
-          ∙ ap (λ n. two n ++ (two (number2 xs 2) ++ (body ++ rest))) long;
-      shows = t.shows;
+      raw = c.raw;
+      short = c.short;
+      bytes = c.bytes;
+      same = c.same ∙ ap (λ ys. framed c.raw ++ ys) (sym t.leaves);
+      shows = ap (λ k. shown k c.raw.body place) c.kind ∙ ap (λ ys. shown (number2 xs 2) ys place) c.body ∙ t.shows;
     }

@@ -6,7 +6,7 @@ use Rattle.sheet_format.specs.declared.found.Variable.{Variable}
 use Rattle.sheet_format.specs.Value.{no_variable, house_at, HousesDiffer}
 use Rattle.sheet_format.specs.Verdict.{used}
 
-used_found : (vs : List Variable) (h : ℕ) → used vs h ≡ true → (i : ℕ) × (i < length vs) × (house_at vs i ≡ h)
+pub used_found : (vs : List Variable) (h : ℕ) → used vs h ≡ true → (i : ℕ) × (i < length vs) × (house_at vs i ≡ h)
 used_found [] h e = absurd (let z : ◌≡◌ {A = ℕ} 0 1 = cc in omega arith)
 used_found (v ∷ vs) h e =
     ⊎_elim (λ f. (0, omega arith, eqb-true v.house h f)) (later (used_found vs h)) (or_cases (eqb v.house h) (used vs h) e)
@@ -14,7 +14,7 @@ used_found (v ∷ vs) h e =
     later : (used vs h ≡ true → (i : ℕ) × (i < length vs) × (house_at vs i ≡ h)) → used vs h ≡ true → (i : ℕ) × (i < length (v ∷ vs)) × (house_at (v ∷ vs) i ≡ h)
     later found f = let p = found f in let l = p.1 in (suc p.0, omega arith, p.2)
 
-used_none : (vs : List Variable) (h : ℕ) → used vs h ≡ false → (i : ℕ) → i < length vs → house_at vs i ≡ h → ⊥
+pub used_none : (vs : List Variable) (h : ℕ) → used vs h ≡ false → (i : ℕ) → i < length vs → house_at vs i ≡ h → ⊥
 used_none [] h e i l f = omega arith
 used_none (v ∷ vs) h e zero l f = eqb-false v.house h (or_parts (eqb v.house h) (used vs h) e).0 f
 used_none (v ∷ vs) h e (suc i) l f = used_none vs h (or_parts (eqb v.house h) (used vs h) e).1 i (omega arith) f

@@ -34,10 +34,10 @@ valid_ends n a b v =
     and_from (ltb a n) (ltb b n && not (eqb a b)) (lt-ltb a n v.a_low)
     (and_from (ltb b n) (not (eqb a b)) (lt-ltb b n v.b_low) (not_from_false (eqb a b) (ne_eqb a b v.apart)))
 
-le_z_is : (a b : ℤ) → le_z a b ≡ true → a ≤ℤ b
+pub le_z_is : (a b : ℤ) → le_z a b ≡ true → a ≤ℤ b
 le_z_is a b e = grind (arith, ints)
 
-is_le_z : (a b : ℤ) → a ≤ℤ b → le_z a b ≡ true
+pub is_le_z : (a b : ℤ) → a ≤ℤ b → le_z a b ≡ true
 is_le_z a b h = grind (arith, ints)
 
 -- a body of four bytes is two numbers

@@ -1,28 +1,33 @@
 -- The law of sheets.
-use Rattle.std.proofs.Common.{◌≡◌, ℕ, zero, suc, ◌+◌, ◌-◌, ◌*◌, ◌/◌, ◌<◌, ◌≤◌, Bool, true, false, cond, ltb, List, [], ◌∷◌, ◌++◌, map, length, get_or, take, drop, Some, None, Ok, Err, Option, sym, refl, ap, ◌∙◌, subst, zero-add, arith}
+use Rattle.std.proofs.Common.{◌≡◌, ℕ, zero, suc, ◌+◌, ◌-◌, ◌*◌, ◌/◌, ◌<◌, ◌≤◌, Bool, true, false, cond, eqb, ltb, ◌⊎◌, List, [], ◌∷◌, ◌++◌, map, length, get_or, take, drop, Some, None, Ok, Err, Option, sym, refl, ap, ◌∙◌, subst, inl, inr, zero-add, arith}
 use Rattle.std.specs.Option.{option_to_list}
 use Rattle.std.specs.List.{flat_map, AllByRecursion}
-use Rattle.std.proofs.lemmas.List.{append_assoc, append-nil}
+use Rattle.std.proofs.lemmas.List.{nil_from_length, append_assoc, append-nil, length-append}
 use Rattle.std.proofs.ByRecursion.{All-from_get_or, All-append, All-map, All-weaker}
-use Rattle.std.proofs.lemmas.Bool.{ltb-true, ltb-false}
+use Rattle.std.proofs.lemmas.Bool.{ltb-true, ltb-false, cond-false, ne_eqb}
 use Rattle.sheet_format.specs.declared.found.Variable.{Variable}
 use Rattle.sheet_format.specs.declared.found.Summary.{Summary}
-use Rattle.sheet_format.specs.declared.faults.Cause.TheVariants.{TooLong}
+use Rattle.sheet_format.specs.declared.faults.Cause.TheVariants.{TooLong, OutOfTurn, Trailing}
 use Rattle.sheet_format.specs.declared.faults.SheetFault.{SheetFault}
 use Rattle.sheet_format.specs.Numbers.{eight, number2}
+use Rattle.sheet_format.specs.Faults.{fault_number, fault_byte, fault_records}
 use Rattle.sheet_format.specs.Value.{Constraint, sum, table, Move, add, retract, Sheet, size_at, ValidVariable, ValidConstraint, ValidMove}
 use Rattle.sheet_format.specs.Encoding.{Raw, framed, heading_record, variable_record, constraint_record, move_record, end_record, records_of, encode, Valid}
 use Rattle.sheet_format.specs.Decoding.{first_record, split, rows_in, as_variable, as_constraint, as_move, gathered, sheet_of, decode}
-use Rattle.sheet_format.specs.Verdict.{Tally, nothing_yet, summary, Verdict, format_fault, walked, verdict}
-use Rattle.sheet_format.specs.Law.{summary_of, Encodes, Law}
+use Rattle.sheet_format.specs.Beginnings.{Begun, heading_begun, records_begun, bytes_begun, AllThere, Keeps}
+use Rattle.sheet_format.specs.Reading.{shows_end}
+use Rattle.sheet_format.specs.Verdict.{Tally, nothing_yet, step, ends, unless, summary, Verdict, format_fault, after_step, walked, verdict}
+use Rattle.sheet_format.specs.Law.{summary_of, Encodes, Says, Refused, too_long, trails, goes_wrong, Law}
 use Rattle.sheet_law.proofs.NumberLaws.{two_back, Bytes}
 use Rattle.sheet_law.proofs.Framing.{Short, framed-length, framed_first}
-use Rattle.sheet_law.proofs.Walks.{Runs, accepted, Accepted, runs}
+use Rattle.sheet_law.proofs.Tallies.{past, nothing_begun, begun_tally, is_complete}
+use Rattle.sheet_law.proofs.Walks.{first_step, walked_on, no_fault, later}
 use Rattle.sheet_law.proofs.Rows.{rows_there}
 use Rattle.sheet_law.proofs.Items.{sum_there}
-use Rattle.sheet_law.proofs.Backward.{AllBytes, tally, Whole, Tail, tail_back}
-use Rattle.sheet_law.proofs.Variables.{Front, front_back, Headed, headed_back}
-use Rattle.sheet_law.proofs.Forward.{size_low, variable_again, last_tally, sheet_runs}
+use Rattle.sheet_law.proofs.Forward.{size_low, variable_again, begun_reaches}
+use Rattle.sheet_law.proofs.Sheets.{sheet_said, sheet_begun, ended_records, ended_bytes, said_valid, all_begun, sheet_keeps, said_summary}
+use Rattle.sheet_law.proofs.Alone.{says, wrong_found}
+use Rattle.sheet_law.proofs.Telling.{Whole, Over, Off, Told, told}
 
 -- framed records, split again
 pub split_back : (rs : List Raw) (most : ℕ) → length rs ≤ most → AllByRecursion Short rs → split most (flat_map framed rs) ≡ rs
@@ -66,17 +71,24 @@ each : {X : Type 0} (P : X → Type 0) → ((x : X) → P x) → (xs : List X) �
 each P f [] = tt
 each P f (x ∷ xs) = (f x, each P f xs)
 
-kinds_low : (s : Sheet) → AllByRecursion (λ r. r.kind < 65536) (records_of s)
-kinds_low s = (
-  omega arith,
-  All-append (λ r. r.kind < 65536) (map variable_record s.variables) _ (All-map (λ r. r.kind < 65536) variable_record s.variables (each _ (λ v. omega arith) s.variables))
-      (All-append (λ r. r.kind < 65536) (map constraint_record s.constraints) _ (All-map (λ r. r.kind < 65536) constraint_record s.constraints (each _ constraint_kind s.constraints))
-      (All-append (λ r. r.kind < 65536) (map move_record s.moves) _ (All-map (λ r. r.kind < 65536) move_record s.moves (each _ move_kind s.moves))
-      (omega arith, tt))),
-)
+kinds_begun : (b : Begun) → AllByRecursion (λ r. r.kind < 65536) (records_begun b)
+kinds_begun b =
+    All-append (λ r. r.kind < 65536) (heading_begun b.n) _ (by b.n)
+    (All-append (λ r. r.kind < 65536) (map variable_record b.variables) _ (All-map (λ r. r.kind < 65536) variable_record b.variables (each _ (λ v. omega arith) b.variables))
+    (All-append (λ r. r.kind < 65536) (map constraint_record b.constraints) _ (All-map (λ r. r.kind < 65536) constraint_record b.constraints (each _ constraint_kind b.constraints))
+    (All-map (λ r. r.kind < 65536) move_record b.moves (each _ move_kind b.moves))))
+  where
+    by : (n : ℕ) → AllByRecursion (λ r. r.kind < 65536) (heading_begun n)
+    by zero = tt
+    by (suc m) = (omega arith, tt)
+
+kinds_low : (s : Sheet) → Valid s → AllByRecursion (λ r. r.kind < 65536) (records_of s)
+kinds_low s v =
+    subst (AllByRecursion (λ r. r.kind < 65536)) (ended_records (sheet_begun s) (all_begun s v))
+    (All-append (λ r. r.kind < 65536) (records_begun (sheet_begun s)) _ (kinds_begun (sheet_begun s)) (omega arith, tt))
 
 pub sheet_short : (s : Sheet) → Valid s → AllByRecursion Short (records_of s)
-sheet_short s v = short_all (records_of s) (kinds_low s) v.short
+sheet_short s v = short_all (records_of s) (kinds_low s v) v.short
 
 -- those of one sort out of records
 gathered-append : {X : Type 0} (f : Raw → Option X) (xs ys : List Raw) → gathered f (xs ++ ys) ≡ gathered f xs ++ gathered f ys
@@ -165,92 +177,164 @@ decode-encode s v =
     let few = records_few (records_of s) in
     ap sheet_of (split_back (records_of s) (length (encode s)) (omega arith) (sheet_short s v)) ∙ sheet_back s v
 
--- records that run to the end are those of a valid sheet
-pub record Sheeted (rs : List Raw) (k : Tally) : Type 0 where
-  pub sheet : Sheet
-  pub valid : length (flat_map framed rs) ≤ 65535 → Valid sheet
-  pub same : rs ≡ records_of sheet
-  pub sums_up : summary k ≡ summary_of sheet
+-- the records of a beginning are short, in bytes few enough
+begun_short : (b : Begun) → length (bytes_begun b) ≤ 65535 → AllByRecursion Short (records_begun b)
+begun_short b l = short_all (records_begun b) (kinds_begun b) l
 
-pub sheeted : (rs : List Raw) (k : Tally) → AllBytes rs → Runs nothing_yet 0 rs k → Sheeted rs k
-sheeted rs k b run =
-    let h : Headed rs k = headed_back rs k b run in
-    let n : ℕ = h.n in
-    let f : Front n n [] 8 h.rest k = front_back n n [] 8 h.rest k (omega arith) h.runs h.bytes tt (λ i j l. absurd (omega arith)) in
-    let some : 1 ≤ h.n = h.some in
-    let few : h.n ≤ 32 = h.few in
-    let vs : List Variable = f.variables in
-    let many : length f.variables ≡ h.n = f.many in
-    let w : Whole (tally n vs 0 0 (8 + 8 * n)) = record { some = some; all = many; few = omega arith } in
-    let t : Tail (tally n vs 0 0 (8 + 8 * n)) (8 + 8 * n) f.rest k = tail_back f.rest (tally n vs 0 0 (8 + 8 * n)) k (8 + 8 * n) w f.bytes f.runs in
-    let s : Sheet = record { variables = vs; constraints = t.constraints; moves = t.moves } in
-    let same : rs ≡ records_of s =
-    h.same
-    ∙ ap (λ xs. heading_record n ∷ xs) (f.same ∙ ap (λ xs. map variable_record vs ++ xs) t.same)
-    ∙ ap (λ m. heading_record m ∷ (map variable_record vs ++ (map constraint_record t.constraints ++ (map move_record t.moves ++ (end_record ∷ []))))) (sym many) in
-    record {
-      sheet = s;
-      valid = λ short.
-          record {
-            some_variables = subst (λ m. 1 ≤ m) (sym many) some;
-            few_variables = subst (λ m. m ≤ 32) (sym many) few;
-            variables_valid = subst (λ m. AllByRecursion (ValidVariable m) vs) (sym many) f.valid;
-            houses_differ = f.differ;
-            few_constraints = (let c = t.few in omega arith);
-            constraints_valid = t.constraints_valid;
-            moves_valid = t.moves_valid;
-            short = subst (λ xs. length (flat_map framed xs) ≤ 65535) same short;
-          };
-      same = same;
-      sums_up = summed k s (t.n_is ∙ sym many) (t.constraints_are ∙ zero-add (length t.constraints)) (t.moves_are ∙ zero-add (length t.moves)) (t.reached_is refl refl ∙ ap (λ m. 8 + 8 * m + length (flat_map framed (map constraint_record t.constraints))) (sym many));
-    }
-  where
-    summed : (g : Tally) (s : Sheet) → g.n ≡ length s.variables → g.constraints ≡ length s.constraints → g.moves ≡ length s.moves
-        → g.reached ≡ 8 + 8 * length s.variables + length (flat_map framed (map constraint_record s.constraints)) → summary g ≡ summary_of s
-    summed g s en ec em er = cc
+-- the walk goes on after a beginning of the bytes
+walk_after : (xs rest : List ℕ) (b : Begun) (most : ℕ) → Keeps b → length xs ≤ 65535 → length xs ≤ most → xs ≡ bytes_begun b ++ rest
+    → walked most xs 0 0 nothing_yet ≡ walked (most - length (records_begun b)) rest (length (bytes_begun b)) (length (records_begun b)) (begun_tally b)
+walk_after xs rest b most k short enough same =
+    let few = records_few (records_begun b) in
+    let long = length-append (bytes_begun b) rest in
+    let all = ap length same in
+    let fuel : most ≡ length (records_begun b) + (most - length (records_begun b)) = omega arith in
+    ap (λ m. walked m xs 0 0 nothing_yet) fuel
+    ∙ ap (λ ys. walked (length (records_begun b) + (most - length (records_begun b))) ys 0 0 nothing_yet) same
+    ∙ walked_on (records_begun b) rest nothing_yet (begun_tally b) 0 0 (most - length (records_begun b)) (begun_reaches b k) (begun_short b (omega arith))
+    ∙ ap (λ p. walked (most - length (records_begun b)) rest p (0 + length (records_begun b)) (begun_tally b)) (zero-add (length (bytes_begun b)))
+    ∙ ap (λ n. walked (most - length (records_begun b)) rest (length (bytes_begun b)) n (begun_tally b)) (zero-add (length (records_begun b)))
 
 -- accepted bytes encode a valid sheet, and one only
-accepted_law : (xs : List ℕ) (z : Summary) → Bytes xs → length xs ≤ 65535 → walked (suc (length xs)) xs 0 0 nothing_yet ≡ Ok z → Encodes xs z
-accepted_law xs z b short e =
-    let a : Accepted xs nothing_yet 0 z = runs (suc (length xs)) xs 0 0 nothing_yet z b e in
-    let t : Sheeted a.records a.end = sheeted a.records a.end a.bytes a.runs in
-    let s : Sheet = t.sheet in
-    let v : Valid s = t.valid (subst (λ ys. length ys ≤ 65535) a.same short) in
-    let bytes : encode s ≡ xs = ap (flat_map framed) (sym t.same) ∙ sym a.same in
+accepted_law : (xs : List ℕ) (z : Summary) → length xs ≤ 65535 → Whole xs z → Encodes xs z
+accepted_law xs z short w =
+    let b : Begun = w.ended.begun in
+    let s : Sheet = sheet_said b in
+    let bytes : encode s ≡ xs = sym (w.ended.same ∙ ap (λ ys. bytes_begun b ++ ys) (append-nil (framed end_record)) ∙ ended_bytes b w.ended.all) in
+    let v : Valid s = said_valid b w.ended.keeps w.ended.all (subst (λ ys. length ys ≤ 65535) (sym bytes) short) in
     let back : decode xs ≡ s = ap decode (sym bytes) ∙ decode-encode s v in
     record {
       valid = subst Valid (sym back) v;
       same = ap encode back ∙ bytes;
-      alone = λ u w f. sym (decode-encode u w) ∙ ap decode f;
-      sums_up = a.sums_up ∙ t.sums_up ∙ ap summary_of (sym back);
+      alone = λ u l f. sym (decode-encode u l) ∙ ap decode f;
+      sums_up = w.sums_up ∙ said_summary b w.ended.all ∙ ap summary_of (sym back);
     }
+
+-- a whole sheet, and what follows it
+walk_over : (xs more : List ℕ) (s : Sheet) → Valid s → length xs ≤ 65535 → xs ≡ encode s ++ more
+    → walked (suc (length xs)) xs 0 0 nothing_yet ≡ cond (eqb (length more) 0) (Ok (summary (begun_tally (sheet_begun s)))) (format_fault Trailing (length (encode s)) (length (records_of s)))
+walk_over xs more s v short same =
+    let b : Begun = sheet_begun s in
+    let g : Tally = begun_tally b in
+    let count : ℕ = length (records_begun b) in
+    let all : AllThere b = all_begun s v in
+    let bytes : xs ≡ bytes_begun b ++ (framed end_record ++ more) =
+    same ∙ ap (λ ys. ys ++ more) (sym (ended_bytes b all)) ∙ append_assoc (bytes_begun b) (framed end_record) more in
+    let few = records_few (records_begun b) in
+    let long = length-append (bytes_begun b) (framed end_record ++ more) in
+    let size = ap length bytes in
+    let left : suc (length xs) - length (records_begun b) ≡ suc (length xs - length (records_begun b)) = omega arith in
+    let turn : step g (shows_end []) (past (length (bytes_begun b)) end_record) ≡ ends = ap (λ t. unless t OutOfTurn ends) (is_complete b all) in
+    let place : past (length (bytes_begun b)) end_record ≡ length (encode s) = sym (length-append (bytes_begun b) (framed end_record)) ∙ ap length (ended_bytes b all) in
+    let many : count + 1 ≡ length (records_of s) = sym (length-append (records_begun b) (end_record ∷ [])) ∙ ap length (ended_records b all) in
+    walk_after xs (framed end_record ++ more) b (suc (length xs)) (sheet_keeps s v) short (omega arith) bytes
+    ∙ ap (λ m. walked m (framed end_record ++ more) (length (bytes_begun b)) count g) left
+    ∙ first_step end_record more g (length (bytes_begun b)) count (length xs - length (records_begun b)) (shows_end []) (record { kind_low = omega arith; length_low = omega arith }) refl
+    ∙ ap (after_step (walked (length xs - length (records_begun b))) g (length (bytes_begun b)) count more (past (length (bytes_begun b)) end_record)) turn
+    ∙ ap (λ p. cond (eqb (length more) 0) (Ok (summary g)) (format_fault Trailing p (count + 1))) place
+    ∙ ap (λ n. cond (eqb (length more) 0) (Ok (summary g)) (format_fault Trailing (length (encode s)) n)) many
 
 -- refused bytes encode none
 refused_law : (xs : List ℕ) (f : SheetFault) → walked (suc (length xs)) xs 0 0 nothing_yet ≡ Err f → (s : Sheet) → Valid s → encode s ≡ xs → ⊥
 refused_law xs f e s v same =
-    let few = records_few (records_of s) in
-    let long : length (encode s) ≡ length xs = ap length same in
-    let extra : ℕ = suc (length xs) - length (records_of s) in
-    let fuel : length (records_of s) + (suc (length xs) - length (records_of s)) ≡ suc (length xs) = omega arith in
-    let ok : walked (suc (length xs)) xs 0 0 nothing_yet ≡ Ok (summary (last_tally s)) =
-    ap (λ ys. walked (suc (length xs)) ys 0 0 nothing_yet) (sym same)
-    ∙ ap (λ m. walked m (encode s) 0 0 nothing_yet) (sym fuel)
-    ∙ accepted (records_of s) nothing_yet (last_tally s) 0 0 extra (sheet_runs s v) (sheet_short s v) in
-    clash (summary (last_tally s)) f (sym ok ∙ e)
-  where
-    clash : (z : Summary) (g : SheetFault) → ◌≡◌ {A = Verdict} (Ok z) (Err g) → ⊥
-    clash z g h = let y : ◌≡◌ {A = ℕ} 0 1 = cc in omega arith
+    no_fault _ f (sym (walk_over xs [] s v (subst (λ ys. length ys ≤ 65535) same v.short) (sym same ∙ sym (append-nil (encode s)))) ∙ e)
+
+-- and they are refused for what the fault says
+why_law : (xs : List ℕ) (f : SheetFault) → length xs ≤ 65535 → walked (suc (length xs)) xs 0 0 nothing_yet ≡ Err f
+    → Over xs (fault_number f) (fault_byte f) (fault_records f) ⊎ Off xs (fault_number f) (fault_byte f) (fault_records f)
+    → Refused xs (fault_number f) (fault_byte f) (fault_records f)
+why_law xs f short e (inl o) =
+    let b : Begun = o.ended.begun in
+    let all : AllThere b = o.ended.all in
+    let bytes = ended_bytes b all in
+    let same : xs ≡ encode (sheet_said b) ++ o.more = o.ended.same ∙ sym (append_assoc (bytes_begun b) (framed end_record) o.more) ∙ ap (λ ys. ys ++ o.more) bytes in
+    let size = ap length same ∙ length-append (encode (sheet_said b)) o.more in
+    let long = sym (ap length bytes) ∙ length-append (bytes_begun b) (framed end_record) in
+    let many = sym (ap length (ended_records b all)) ∙ length-append (records_begun b) (end_record ∷ []) in
+    trails o.number_is
+    (record {
+      short = short;
+      sheet = sheet_said b;
+      valid = said_valid b o.ended.keeps all (omega arith);
+      more = o.more;
+      some = o.some;
+      same = same;
+      byte_is = o.byte_is ∙ sym long;
+      records_are = o.records_are ∙ sym many;
+    })
+why_law xs f short e (inr o) =
+    goes_wrong
+    (record {
+      short = short;
+      begun = o.begun;
+      keeps = o.keeps;
+      rest = o.rest;
+      same = o.same;
+      byte_is = o.byte_is;
+      records_are = o.records_are;
+      longest = λ c k after same. later _ after _ _ _ f (sym (walk_after xs after c (suc (length xs)) k short (omega arith) same) ∙ e);
+      wrong = o.wrong;
+    })
+
+-- and for that alone
+alone_law : (xs : List ℕ) (f : SheetFault) → length xs ≤ 65535 → walked (suc (length xs)) xs 0 0 nothing_yet ≡ Err f → (number byte records : ℕ) → Refused xs number byte records → Says f number byte records
+alone_law xs f short e number byte records (too_long m l p n) = absurd (omega arith)
+alone_law xs f short e number byte records (trails m t) =
+    let some : eqb (length t.more) 0 ≡ false = ne_eqb (length t.more) 0 (λ z. t.some (nil_from_length t.more z)) in
+    let at : Says f number (length (encode t.sheet)) (length (records_of t.sheet)) =
+    says number _ f m (sym (walk_over xs t.more t.sheet t.valid short t.same ∙ cond-false (eqb (length t.more) 0) _ _ some) ∙ e) in
+    record { number_is = at.number_is; byte_is = t.byte_is ∙ at.byte_is; records_are = t.records_are ∙ at.records_are }
+alone_law xs f short e number byte records (goes_wrong w) =
+    let b : Begun = w.begun in
+    let few = records_few (records_begun w.begun) in
+    let size = ap length w.same ∙ length-append (bytes_begun w.begun) w.rest in
+    let left : suc (length xs) - length (records_begun w.begun) ≡ suc (length xs - length (records_begun w.begun)) = omega arith in
+    let at : Says f number (length (bytes_begun b)) (length (records_begun b)) =
+    wrong_found b w.keeps (length (bytes_begun b)) (length (records_begun b)) (length xs - length (records_begun b)) number f w.rest w.wrong
+    (sym
+    (walk_after xs w.rest b (suc (length xs)) w.keeps short (omega arith) w.same
+    ∙ ap (λ m. walked m w.rest (length (bytes_begun b)) (length (records_begun b)) (begun_tally b)) left)
+    ∙ e) in
+    record { number_is = at.number_is; byte_is = w.byte_is ∙ at.byte_is; records_are = w.records_are ∙ at.records_are }
+
+-- only too many bytes are too many
+alone_long : (xs : List ℕ) (f : SheetFault) → 65535 < length xs → format_fault TooLong 65535 0 ≡ Err f → (number byte records : ℕ) → Refused xs number byte records → Says f number byte records
+alone_long xs f long e number byte records (too_long m l p n) =
+    let at : Says f number 65535 0 = says number _ f m e in
+    record { number_is = at.number_is; byte_is = p ∙ at.byte_is; records_are = n ∙ at.records_are }
+alone_long xs f long e number byte records (trails m t) = absurd (let s = t.short in omega arith)
+alone_long xs f long e number byte records (goes_wrong w) = absurd (let s = w.short in omega arith)
 
 law : (xs : List ℕ) → Bytes xs → Law xs (verdict xs)
 law xs b = sized (ltb 65535 (length xs)) refl
   where
-    by_walk : (r : Verdict) → length xs ≤ 65535 → walked (suc (length xs)) xs 0 0 nothing_yet ≡ r → Law xs r
-    by_walk (Ok z) short e = accepted_law xs z b short e
-    by_walk (Err f) short e = refused_law xs f e
+    nothing_keeps : Keeps nothing_begun
+    nothing_keeps =
+        record {
+          n_low = omega arith;
+          few_variables = omega arith;
+          variables_valid = tt;
+          houses_differ = λ i j l. absurd (omega arith);
+          in_turn = λ l. absurd (omega arith);
+          few_constraints = omega arith;
+          constraints_valid = tt;
+          moves_valid = tt;
+        }
+
+    by_walk : (r : Verdict) → length xs ≤ 65535 → walked (suc (length xs)) xs 0 0 nothing_yet ≡ r → Told xs r → Law xs r
+    by_walk (Ok z) short e t = accepted_law xs z short t
+    by_walk (Err f) short e t = record { no_sheet = refused_law xs f e; why = why_law xs f short e t; alone = alone_law xs f short e }
 
     sized : (t : Bool) → ltb 65535 (length xs) ≡ t → Law xs (cond t (format_fault TooLong 65535 0) (walked (suc (length xs)) xs 0 0 nothing_yet))
-    sized true e = λ s v same. let l : 65535 < length xs = ltb-true 65535 (length xs) e in let k = v.short in let m = ap length same in omega arith
-    sized false e = by_walk (walked (suc (length xs)) xs 0 0 nothing_yet) (ltb-false 65535 (length xs) e) refl
+    sized true e =
+        let l : 65535 < length xs = ltb-true 65535 (length xs) e in
+        record {
+          no_sheet = λ s v same. let k = v.short in let m = ap length same in omega arith;
+          why = too_long refl l refl refl;
+          alone = alone_long xs _ l refl;
+        }
+    sized false e =
+        by_walk (walked (suc (length xs)) xs 0 0 nothing_yet) (ltb-false 65535 (length xs) e) refl (told (suc (length xs)) xs xs nothing_begun nothing_keeps b (omega arith) refl)
 
 -- the same where each byte is known to be below 256 by its place
 pub law_at : (xs : List ℕ) → ((k : ℕ) → get_or xs k 0 < 256) → Law xs (verdict xs)

@@ -9,6 +9,19 @@ use Rattle.sheet_format.specs.Verdict.{rows_good}
 use Rattle.sheet_format.specs.Decoding.{rows_in}
 use Rattle.sheet_law.proofs.NumberLaws.{eight_back, Bytes, row_first}
 
+-- the test of rows says that each has its bits below the size
+pub rows_fit : (count size : ℕ) (xs : List ℕ) → rows_good count size xs ≡ true → AllByRecursion (λ row. row < 2 ^ size) (rows_in count xs)
+unfolding rows_good rows_in
+rows_fit zero size xs g = tt
+rows_fit (suc count) size xs g =
+    let p = and_parts (ltb (number8 xs 0) (2 ^ size)) (rows_good count size (drop 8 xs)) g in
+    (ltb-true _ _ p.0, rows_fit count size (drop 8 xs) p.1)
+
+pub fit_rows : (count size : ℕ) (xs : List ℕ) → AllByRecursion (λ row. row < 2 ^ size) (rows_in count xs) → rows_good count size xs ≡ true
+unfolding rows_good rows_in
+fit_rows zero size xs low = refl
+fit_rows (suc count) size xs low = and_from _ _ (lt-ltb _ _ low.0) (fit_rows count size (drop 8 xs) low.1)
+
 -- rows that are good are those read back, and each has its bits below the size
 pub record RowsBack (count size : ℕ) (xs : List ℕ) : Type 0 where
   pub many : length (rows_in count xs) ≡ count

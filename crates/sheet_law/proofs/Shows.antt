@@ -1,6 +1,6 @@
 -- What a record shows says its kind and its body.
-use Rattle.std.proofs.Common.{◌≡◌, ℕ, ◌+◌, ◌≤◌, Bool, true, false, cond, eqb, ltb, ◌⊎◌, List, [], ◌∷◌, length, get_or, drop, Some, None, Option, refl, subst, inl, inr, ⊎_elim, arith}
-use Rattle.std.proofs.lemmas.Bool.{eqb-true, ltb-false}
+use Rattle.std.proofs.Common.{◌≡◌, ℕ, ◌+◌, ◌<◌, ◌≤◌, Bool, true, false, cond, eqb, ltb, ◌⊎◌, List, [], ◌∷◌, length, get_or, drop, Some, None, Option, refl, subst, inl, inr, ⊎_elim, arith}
+use Rattle.std.proofs.lemmas.Bool.{eqb-true, ltb-true, ltb-false}
 use Rattle.sheet_format.specs.Reading.{Shown, shows_heading, shows_variable, shows_sum, shows_table, shows_short_table, shows_add, shows_retract, shows_end, shown, shown_table}
 
 abbrev pub KindIs : ℕ → List ℕ → Shown → Type 0
@@ -8,7 +8,7 @@ KindIs kind body (shows_heading b) = (kind ≡ 1) × (body ≡ b)
 KindIs kind body (shows_variable b) = (kind ≡ 2) × (body ≡ b)
 KindIs kind body (shows_sum b) = (kind ≡ 3) × (body ≡ b)
 KindIs kind body (shows_table x y rows place) = (kind ≡ 4) × (body ≡ x ∷ (y ∷ rows))
-KindIs kind body (shows_short_table b) = Unit {0}
+KindIs kind body (shows_short_table b) = (kind ≡ 4) × (body ≡ b) × (length b < 2)
 KindIs kind body (shows_add b) = (kind ≡ 5) × (body ≡ b)
 KindIs kind body (shows_retract b) = (kind ≡ 6) × (body ≡ b)
 KindIs kind body (shows_end b) = (kind ≡ 7) × (body ≡ b)
@@ -20,14 +20,14 @@ pick false t next s e = inr e
 never : (s : Shown) → ◌≡◌ {A = Option Shown} None (Some s) → ⊥
 never s e = let z : ◌≡◌ {A = ℕ} 0 1 = cc in omega arith
 
-two_first : (body : List ℕ) → 2 ≤ length body → body ≡ get_or body 0 0 ∷ (get_or body 1 0 ∷ drop 2 body)
+pub two_first : (body : List ℕ) → 2 ≤ length body → body ≡ get_or body 0 0 ∷ (get_or body 1 0 ∷ drop 2 body)
 two_first [] h = absurd (omega arith)
 two_first (x ∷ []) h = absurd (omega arith)
 two_first (x ∷ (y ∷ rest)) h = refl
 
 table_is : (kind : ℕ) (body : List ℕ) (place : ℕ) → kind ≡ 4 → (b : Bool) → ltb (length body) 2 ≡ b
     → KindIs kind body (cond b (shows_short_table body) (shows_table (get_or body 0 0) (get_or body 1 0) (drop 2 body) (place + 6)))
-table_is kind body place e true t = tt
+table_is kind body place e true t = (e, refl, ltb-true (length body) 2 t)
 table_is kind body place e false t = (e, two_first body (ltb-false (length body) 2 t))
 
 pub kind_is : (kind : ℕ) (body : List ℕ) (place : ℕ) (s : Shown) → shown kind body place ≡ Some s → KindIs kind body s
