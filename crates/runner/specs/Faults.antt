@@ -3,16 +3,7 @@ use Rattle.std.specs.Prelude.{ℕ, Some, None, Ok, Err, Option, Result}
 use Rattle.network_law.specs.declared.Answer.{Answer}
 use Rattle.network_law.specs.declared.Answer.TheVariants.{Opened, Changed, Domain, Shown, Justified, Wiped, Refused}
 use Rattle.network_law.specs.declared.Change.{Change}
-use Rattle.sheet_moves.specs.declared.moves.MovesFault.{MovesFault}
-use Rattle.sheet_moves.specs.declared.moves.MovesFault.TheVariants as moves
 use Rattle.runner.specs.declared.faults.MoveFault.{MoveFault}
-use Rattle.runner.specs.declared.faults.RunFault.{RunFault}
-use Rattle.runner.specs.declared.faults.RunFault.TheVariants as run
-
--- the fault of a run whose sheet has no moves to give
-abbrev pub from_moves : MovesFault → RunFault
-from_moves (moves.Sheet fault) = run.Sheet fault
-from_moves moves.Memory = run.Memory
 
 -- what an answer says of a move
 abbrev pub outcome : Answer → ℕ → Option (Result Change MoveFault)

@@ -1,12 +1,11 @@
 // What can go wrong in a run.
 ghost use Rattle.std.specs.Prelude.{◌≡◌};
-ghost use Rattle.runner.specs.Faults.{from_moves, outcome};
-ghost use Rattle.runner.specs.declared.faults.RunFault.TheVariants.{Move as OfMove, Memory as NoMemory};
+ghost use Rattle.runner.specs.Faults.{outcome};
+ghost use Rattle.runner.specs.declared.faults.RunFault.TheVariants.{Sheet as OfSheet, Move as OfMove, Memory as NoMemory};
 
 use network_law::{Answer, Change};
 use refusal::Refusal;
 use sheet_format::SheetFault;
-use sheet_moves::MovesFault;
 use std::alloc::AllocError;
 
 // A refused move: how many moves came before it, and why it was refused. No `Counted<Refusal>`: this type is public with these fields, and a
@@ -27,14 +26,11 @@ pub enum RunFault {
 
 // The conversions are written out: a derived one has no contract, and each of these says which fault it makes. The `?` of `run_sheet` makes a
 // sheet's fault and that of memory; no `?` here makes that of a refused move, whose conversion stays as it is public.
-impl From<MovesFault> for RunFault {
-    ghost from_gives = { λ x y. y ≡ from_moves x };
+impl From<SheetFault> for RunFault {
+    ghost from_gives = { λ x y. y ≡ OfSheet x };
 
-    fn from(x: MovesFault) -> RunFault {
-        match x {
-            MovesFault::Sheet(fault) => RunFault::Sheet(fault),
-            MovesFault::Memory => RunFault::Memory,
-        }
+    fn from(x: SheetFault) -> RunFault {
+        RunFault::Sheet(x)
     }
 }
 

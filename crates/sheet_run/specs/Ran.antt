@@ -1,5 +1,5 @@
 -- What the run of a sheet gives.
-use Rattle.std.specs.Prelude.{◌≡◌, ℕ, List, map, Err, vec_items}
+use Rattle.std.specs.Prelude.{◌≡◌, ℕ, true, List, map, Err, is_ok, vec_items}
 use Rattle.network_law.specs.History.{Run}
 use Rattle.runner.specs.Runs.{calls_for}
 use Rattle.runner.specs.declared.faults.RunFault.{RunFault}
@@ -19,8 +19,8 @@ pub record Ran (bytes : List ℕ) (report : Report) : Type 0 where
   pub moved : map said (vec_items report.moves) ≡ (decode bytes).moves
   pub run : Run (pile_of bytes) (calls_for (record { waiting = 128; returning = 2048 }) sizes (vec_items report.moves)) (vec_items report.answers)
 
--- no run: the sheet is refused by its verdict, or memory is wanting; never for a move
+-- no run: the sheet is refused by its verdict, or memory is wanting for one that is accepted; never for a move
 abbrev pub Stopped : Verdict → RunFault → Type 0
 Stopped v (Sheet fault) = v ≡ Err fault
 Stopped v (Move fault) = ⊥
-Stopped v Memory = Unit {0}
+Stopped v Memory = is_ok v ≡ true

@@ -1,6 +1,6 @@
 use Rattle.std.proofs.Common.{rules}
 use Rattle.sheet_pile.specs.Sizes.{listed}
-use Rattle.sheet_run.proofs.sheets.run_sheet.Goals as goal
+use Rattle.sheet_run.proofs.sheets.run_accepted.Goals as goal
 
 pub returns : goal.returns
 returns c =
