@@ -1,1 +1,4 @@
-mod Lists
+mod Answering
+mod Leading
+mod Printed
+mod Printing

@@ -1,25 +1,24 @@
--- How faults are carried on.
-use Rattle.std.specs.Prelude.{ℕ, Some, None, Ok, Err, Option, Result}
-use Rattle.network_law.specs.declared.Answer.{Answer}
-use Rattle.network_law.specs.declared.Answer.TheVariants.{Opened, Changed, Domain, Shown, Justified, Wiped, Refused}
-use Rattle.network_law.specs.declared.Change.{Change}
-use Rattle.sheet_moves.specs.declared.moves.MovesFault.{MovesFault}
-use Rattle.sheet_moves.specs.declared.moves.MovesFault.TheVariants as moves
-use Rattle.runner.specs.declared.faults.MoveFault.{MoveFault}
+-- What the faults of a run say: the number of the cause, the byte, and how many came before.
+use Rattle.std.specs.Prelude.{ℕ, Some, None, Option}
+use Rattle.refusal.specs.Number.{number_of}
+use Rattle.sheet_format.specs.Faults as sheet
 use Rattle.runner.specs.declared.faults.RunFault.{RunFault}
-use Rattle.runner.specs.declared.faults.RunFault.TheVariants as run
+use Rattle.runner.specs.declared.faults.RunFault.TheVariants.{Sheet, Move, Memory}
 
--- the fault of a run whose sheet has no moves to give
-abbrev pub from_moves : MovesFault → RunFault
-from_moves (moves.Sheet fault) = run.Sheet fault
-from_moves moves.Memory = run.Memory
+-- a refused sheet has the number of its fault, a refused move that of its refusal; want of memory has none
+abbrev pub fault_number : RunFault → Option ℕ
+fault_number (Sheet f) = Some (sheet.fault_number f)
+fault_number (Move f) = Some (number_of f.refusal)
+fault_number Memory = None
 
--- what an answer says of a move
-abbrev pub outcome : Answer → ℕ → Option (Result Change MoveFault)
-outcome Opened before = None
-outcome (Changed c) before = Some (Ok c)
-outcome (Domain d) before = None
-outcome (Shown b) before = None
-outcome (Justified j) before = None
-outcome (Wiped o) before = None
-outcome (Refused e) before = Some (Err (record { before = before; refusal = e }))
+-- the byte of a refused sheet
+abbrev pub fault_byte : RunFault → Option ℕ
+fault_byte (Sheet f) = Some (sheet.fault_byte f)
+fault_byte (Move f) = None
+fault_byte Memory = None
+
+-- records of the sheet that came before, or moves
+abbrev pub fault_before : RunFault → Option ℕ
+fault_before (Sheet f) = Some (sheet.fault_records f)
+fault_before (Move f) = Some f.before
+fault_before Memory = None

@@ -1,10 +1,14 @@
-// A run of a sheet: its moves made on a network, one after another.
+// A run of a sheet: its moves made on a network, one after another, and what is printed of it.
 #![tactic(auto)]
 
 mod faults;
-mod listing;
+mod reports;
 mod running;
+mod sheets;
+mod texts;
 
-pub use faults::{MoveFault, RunFault, outcome_of};
-pub use listing::calls_for;
-pub use running::run_moves;
+pub use faults::{MoveFault, RunFault};
+pub use reports::Report;
+pub use running::moving::run_moves;
+pub use sheets::{listing, run_sheet};
+pub use texts::{move_line, report_text};

@@ -10,21 +10,28 @@ use crate::view::Constraint;
 use sheet::Accepted;
 
 impl<'a> SheetCatalog<'a> {
-    // The catalog over these bytes. Checks them, and finds where each constraint begins.
-    pub fn new(bytes: &'a [u8]) -> SheetCatalog<'a>
-        ensures { result.bytes.now ≡ bytes.now }
+    // The catalog over a checked sheet. Finds where each constraint begins.
+    pub fn of(sheet: &Accepted<'a>) -> SheetCatalog<'a>
+        ensures { result.bytes.now ≡ sheet.now.bytes.now }
     {
-        let Ok(sheet) = Accepted::new(bytes) else {
-            return SheetCatalog {
-                bytes,
-                count: 0,
-                starts: [0; 96],
-            };
-        };
         SheetCatalog {
             bytes: sheet.bytes,
             count: sheet.found.constraints as usize,
-            starts: starts_of(&sheet),
+            starts: starts_of(sheet),
+        }
+    }
+
+    // The catalog over any bytes, which it checks.
+    pub fn new(bytes: &'a [u8]) -> SheetCatalog<'a>
+        ensures { result.bytes.now ≡ bytes.now }
+    {
+        match Accepted::new(bytes) {
+            Ok(sheet) => SheetCatalog::of(&sheet),
+            Err(_) => SheetCatalog {
+                bytes,
+                count: 0,
+                starts: [0; 96],
+            },
         }
     }
 

@@ -13,6 +13,8 @@ use Rattle.sheet_format.specs.Value.{Move, add, retract, Sheet, ValidMove}
 use Rattle.sheet_format.specs.Encoding.{framed, heading_record, variable_record, constraint_record, move_record, end_record, encode}
 use Rattle.sheet_format.specs.Decoding.{decode}
 use Rattle.sheet_format.specs.Law.{Encodes, summary_of}
+use Rattle.sheet.specs.declared.accepted.Accepted.{Accepted}
+use Rattle.sheet.proofs.Encoded.{encoded}
 use Rattle.sheet_law.proofs.NumberLaws.{two_back}
 use Rattle.sheet_law.proofs.Framing.{variables_long}
 use Rattle.sheet_moves.specs.Moves.{said, move_by_kind}
@@ -86,7 +88,7 @@ moves_read xs found e =
     ∙ ap (λ n. map said (map move_by_kind (take n (first_chunks 6 (length (flat_map framed (map move_record s.moves) ++ framed end_record) / 6) (flat_map framed (map move_record s.moves) ++ framed end_record))))) many
     ∙ in_order s.moves (framed end_record) _ enough e.valid.moves_valid
 
-pub moves_fit : (xs : List ℕ) (found : Summary) → Encodes xs found → found.moves_at + 6 * found.moves + 4 ≡ length xs
+moves_fit : (xs : List ℕ) (found : Summary) → Encodes xs found → found.moves_at + 6 * found.moves + 4 ≡ length xs
 moves_fit xs found e =
     let many : found.moves ≡ length (decode xs).moves = ap (λ z. z.moves) e.sums_up in
     let place : found.moves_at ≡ length (before (decode xs)) = ap (λ z. z.moves_at) e.sums_up ∙ sym (before_long (decode xs)) in
@@ -104,3 +106,7 @@ records_there xs found e records h =
     let d : length (from found.moves_at xs) ≡ length xs - found.moves_at = ap length (from_drop found.moves_at xs) ∙ length-drop found.moves_at xs in
     let enough : found.moves ≤ length records = omega arith in
     sym (length-take-le found.moves records enough)
+
+-- the moves of a checked sheet stand in its bytes
+pub fit_at : (s : Accepted) → s.found.moves_at + 6 * s.found.moves + 4 ≡ length s.bytes.now
+fit_at s = moves_fit s.bytes.now s.found (encoded s)

@@ -5,4 +5,4 @@ mod kinds;
 mod moves;
 
 pub use kinds::Move;
-pub use moves::{MovesFault, moves_of};
+pub use moves::moves_of;

@@ -1,1 +1,3 @@
+mod Everyone
+mod Fitting
 mod Known

@@ -29,14 +29,21 @@ fn numbers(sheet: &Accepted<'_>) -> [usize; 32]
     array::from_fn(|e| number(sheet, e))
 }
 
-// Entry e is the house number of the sheet's variable e, and e itself past the sheet's variables. For a sheet that the check refuses each
-// entry is its own index.
-#[tactic(auto, using(crate::proofs::Known::numbers_at, sheet_meaning::proofs::Variables::own_numbers))]
+// Entry e is the house number of the sheet's variable e, and e itself past the sheet's variables.
+#[tactic(auto, using(crate::proofs::Known::numbers_at))]
+pub fn numbering_of(sheet: &Accepted<'_>) -> Numbering
+    ensures { result.to ≡ numbers_of (sheet_in sheet.now.bytes.now) }
+{
+    Numbering::new(&numbers(sheet)).unwrap()
+}
+
+// The same of any bytes. For a sheet that the check refuses each entry is its own index.
+#[tactic(auto, using(sheet_meaning::proofs::Variables::own_numbers))]
 pub fn numbering(bytes: &[u8]) -> Numbering
     ensures { result.to ≡ numbers_of (sheet_in bytes.now) }
 {
     match Accepted::new(bytes) {
-        Ok(sheet) => Numbering::new(&numbers(&sheet)).unwrap(),
+        Ok(sheet) => numbering_of(&sheet),
         Err(_) => Numbering::identity(),
     }
 }

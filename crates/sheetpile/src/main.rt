@@ -10,8 +10,8 @@ use counting::{inside, pairs};
 use refusal::checks::check_constraint;
 use run_text::domain_line;
 use scratch::largest_domains;
-use sheet::check;
-use sheet_pile::pile;
+use sheet::Accepted;
+use sheet_pile::pile_of;
 use sheet_pile::sizes::Sizes;
 use std::io;
 use std::io::Read;
@@ -45,14 +45,15 @@ fn print_domains<C: Catalog>(rt: &HostRuntime, catalog: &C, sizes: &[usize]) -> 
 }
 
 fn main(rt: HostRuntime) -> anyhow::Result<()> {
-    let mut sheet = Vec::new(rt.alloc());
-    rt.stdin().read_to_end(&mut sheet)?;
-    if let Err(fault) = check(&sheet) {
-        rt.println(fault)?;
-        return Ok(());
+    let mut bytes = Vec::new(rt.alloc());
+    rt.stdin().read_to_end(&mut bytes)?;
+    match Accepted::new(&bytes) {
+        Ok(sheet) => {
+            let catalog = pile_of(&sheet);
+            let sizes = Sizes::of(&sheet);
+            print_constraints(&rt, &catalog, sizes.as_slice())?;
+            print_domains(&rt, &catalog, sizes.as_slice())
+        }
+        Err(fault) => Ok(rt.println(fault)?),
     }
-    let catalog = pile(&sheet);
-    let sizes = Sizes::of(&sheet);
-    print_constraints(&rt, &catalog, sizes.as_slice())?;
-    print_domains(&rt, &catalog, sizes.as_slice())
 }

@@ -1,5 +1,6 @@
 // Reading the sizes from a sheet.
-ghost use Rattle.std.specs.Prelude.{◌≡◌, ℕ, ◌<◌, length, slice_index};
+ghost use Rattle.std.specs.Prelude.{◌≡◌, ℕ, ◌<◌, None, length, slice_index};
+ghost use Rattle.refusal.specs.Causes.{sizes_refusal};
 ghost use Rattle.sheet_format.specs.Decoding.{decode};
 ghost use Rattle.sheet_meaning.specs.Meant.{sheet_in};
 ghost use Rattle.sheet_meaning.specs.Placed.{size_of_house, SizesOf};
@@ -34,26 +35,21 @@ fn sizes_in(sheet: &Accepted<'_>) -> [usize; 32]
 }
 
 impl Sizes {
-    // The sizes that the sheet gives; none for a sheet that the check refuses.
-    #[tactic(auto, using(crate::proofs::Known::sizes_at, sheet_meaning::proofs::Variables::refused_sizes))]
-    pub fn of(bytes: &[u8]) -> Sizes
-        ensures { SizesOf (sheet_in bytes.now) (listed result) }
+    // The sizes that the sheet gives.
+    #[tactic(auto, using(crate::proofs::Known::sizes_at))]
+    pub fn of(sheet: &Accepted<'_>) -> Sizes
+        ensures { SizesOf (sheet_in sheet.now.bytes.now) (listed result) }
     {
-        let Ok(sheet) = Accepted::new(bytes) else {
-            return Sizes {
-                sizes: [0; 32],
-                count: 0,
-            };
-        };
         Sizes {
-            sizes: sizes_in(&sheet),
+            sizes: sizes_in(sheet),
             count: sheet.found.variables as usize,
         }
     }
 
-    // The sizes as a list.
+    // The sizes as a list, which a network takes.
     pub fn as_slice(&self) -> &[usize]
-        ensures { result.now ≡ listed self.now }
+        ensures listed { result.now ≡ listed self.now }
+        ensures good { sizes_refusal result.now ≡ None }
     {
         &self.sizes[0..self.count]
     }

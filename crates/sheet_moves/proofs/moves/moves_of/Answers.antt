@@ -1,13 +1,18 @@
 use Rattle.std.proofs.Common.{map, take, ap, ◌∙◌}
+use Rattle.std.proofs.lemmas.Result.{IfOk-weaker}
+use Rattle.sheet.proofs.Encoded.{encoded}
 use Rattle.sheet_moves.specs.Moves.{said, move_by_kind}
 use Rattle.sheet_moves.proofs.Places.{moves_read, records_there}
 use Rattle.sheet_moves.proofs.moves.moves_of.Goals as goal
 
 pub slice_bounds-moves_in-end : goal.slice_bounds-moves_in-end
-slice_bounds-moves_in-end c = records_there c.args.sheet.now c.in_ok-found.found c.in_ok-found.ensures.law c.as_chunks.result.0.now c.as_chunks.ensures.front_len
+slice_bounds-moves_in-end c = let s = c.args.sheet.now in records_there s.bytes.now s.found (encoded s) c.as_chunks.result.0.now c.as_chunks.ensures.front_len
 
 pub returns : goal.returns
 returns c =
-    ap (map said) c.in_ok-moves.ensures
-    ∙ ap (λ records. map said (map move_by_kind (take c.in_ok-found.found.moves records))) c.as_chunks.ensures.front
-    ∙ moves_read c.args.sheet.now c.in_ok-found.found c.in_ok-found.ensures.law
+    let s = c.args.sheet.now in
+    IfOk-weaker c.moves_in.result _ _
+    (λ v e. ap (map said) e
+    ∙ ap (λ records. map said (map move_by_kind (take s.found.moves records))) c.as_chunks.ensures.front
+    ∙ moves_read s.bytes.now s.found (encoded s))
+    c.moves_in.ensures

@@ -1,0 +1,134 @@
+-- From call to call of a run.
+use Rattle.std.proofs.Common.{◌≡◌, ℕ, suc, ◌+◌, ◌<◌, cond, List, [], ◌∷◌, ◌++◌, map, length, get_or, take, Some, Result, is_err, is_some, count_by, true, vec_items, sym, refl, ap, ◌∙◌, subst, ⊎_elim, add-one, arith}
+use Rattle.std.proofs.lemmas.List.{map_more, map-append}
+use Rattle.std.proofs.lemmas.List.Sums.{sum_by-append}
+use Rattle.catalog.specs.Meaning.{Meaning}
+use Rattle.network_law.specs.declared.Answer.{Answer}
+use Rattle.network_law.specs.declared.Answer.TheVariants.{Domain, Opened}
+use Rattle.network_law.specs.declared.Change.{Change}
+use Rattle.network_law.specs.Calls.{Call, asks_domain, opens}
+use Rattle.network_law.specs.History.{History}
+use Rattle.network_law.specs.Moment.{Blank, Right}
+use Rattle.network_law.specs.Step.{Step}
+use Rattle.network_law.proofs.Histories.{join}
+use Rattle.network.specs.Served.{Stands}
+use Rattle.sheet_moves.specs.declared.kinds.Move.{Move}
+use Rattle.runner.specs.declared.faults.RunFault.{RunFault}
+use Rattle.runner.specs.declared.reports.Report.{Report}
+use Rattle.runner.specs.declared.running.Running.{Running}
+use Rattle.runner.specs.Led.{moment_at, held, Led, MadeOne, MadeAll}
+use Rattle.runner.specs.Ran.{Ran}
+use Rattle.runner.specs.Runs.{move_call, domains_asked, outcome, Outcomes}
+use Rattle.runner.proofs.Answering.{move_answers}
+
+abbrev Outcome : Type 0
+Outcome = Result Change RunFault
+
+-- one outcome more
+outcomes_more : (k : ℕ) (answers : List Answer) (os : List Outcome) (a : Answer) (o : Outcome) → Outcomes k answers os → outcome (k + length os) a ≡ Some o → Outcomes k (answers ++ (a ∷ [])) (os ++ (o ∷ []))
+outcomes_more k [] [] a o h e = (ap (λ n. outcome n a) (let z : k ≡ k + 0 = omega arith in z) ∙ e, tt)
+outcomes_more k (b ∷ answers) [] a o h e = absurd h
+outcomes_more k [] (p ∷ os) a o h e = absurd h
+outcomes_more k (b ∷ answers) (p ∷ os) a o h e =
+    (h.0, outcomes_more (suc k) answers os a o h.1 (ap (λ n. outcome n a) (let z : suc k + length os ≡ k + suc (length os) = omega arith in z) ∙ e))
+
+count_more : (os : List Outcome) (o : Outcome) → count_by is_err (os ++ (o ∷ [])) ≡ count_by is_err os + cond (is_err o) 1 0
+count_more os o =
+    let a : count_by is_err (os ++ (o ∷ [])) ≡ count_by is_err os + count_by is_err (o ∷ []) = sum_by-append (λ x. cond (is_err x) 1 0) os (o ∷ []) in
+    let b : count_by is_err (o ∷ []) ≡ cond (is_err o) 1 0 = omega arith in
+    a ∙ ap (λ k. count_by is_err os + k) b
+
+module _ {C : Type 0} (meaning : C → Meaning) where
+  -- one call was a step of the law
+  pub led_step : (r r' : Running C) (k : Call) (a : Answer) → Led meaning r (k ∷ []) (a ∷ []) r' → Step (meaning r.network.catalog) (moment_at r) k a (moment_at r')
+  led_step r r' k a l =
+      subst (λ v. Step (meaning r.network.catalog) (moment_at r) k a v) (sym l.history.3.0) l.history.2.step
+
+  -- some calls, and then others
+  pub led_on : (r s t : Running C) (ks ls : List Call) (as₁ as₂ : List Answer) → Led meaning r ks as₁ s → Led meaning s ls as₂ t → Led meaning r (ks ++ ls) (as₁ ++ as₂) t
+  led_on r s t ks ls as₁ as₂ p q = record {
+    stands = q.stands;
+    catalog = q.catalog ∙ p.catalog;
+    history =
+        join (meaning r.network.catalog) (moment_at r) (moment_at s) (moment_at t) (held r) (held s) (held t) ks as₁ ls as₂ p.history
+        (subst (λ c. History (meaning c) (moment_at s) (held s) ls as₂ (moment_at t) (held t)) p.catalog q.history);
+  }
+
+  -- a move's answer says what came of it
+  pub move_known : (r r' : Running C) (before : ℕ) (v : Move) (k : Call) (a : Answer) → k ≡ move_call v → Led meaning r (k ∷ []) (a ∷ []) r' → is_some (outcome before a) ≡ true
+  move_known r r' before v k a e l =
+      let step = led_step r r' (move_call v) a (subst (λ j. Led meaning r (j ∷ []) (a ∷ []) r') e l) in
+      ⊎_elim (λ c. ap (λ b. is_some (outcome before b)) c.1) (λ c. ap (λ b. is_some (outcome before b)) c.1) (move_answers _ _ _ v a step).0
+
+  pub made_one : (r r' : Running C) (before : ℕ) (v : Move) (k : Call) (a : Answer) (o : Outcome) → k ≡ move_call v → Led meaning r (k ∷ []) (a ∷ []) r' → outcome before a ≡ Some o
+      → MadeOne meaning r before v o r'
+  made_one r r' before v k a o e l said =
+      let led : Led meaning r (move_call v ∷ []) (a ∷ []) r' = subst (λ j. Led meaning r (j ∷ []) (a ∷ []) r') e l in
+      record { answer = a; led = led; outcome = said; sizes = (move_answers _ _ _ v a (led_step r r' (move_call v) a led)).1 }
+
+  -- no call
+  pub led_none : (r : Running C) → Stands meaning r.network → Led meaning r [] [] r
+  led_none r h = record { stands = h; catalog = refl; history = (refl, refl) }
+
+  -- no move yet, and one more
+  pub none_made : (r : Running C) (moves : List Move) → Stands meaning r.network → MadeAll meaning r (map move_call (take 0 moves)) [] 0 r
+  none_made r moves h = record { answers = []; led = led_none r h; outcomes = tt; refused = refl; sizes = refl }
+
+  pub made_more : (r s t : Running C) (moves : List Move) (i : ℕ) (d : Move) (os later : List Outcome) (n n' : ℕ) (o : Outcome) → i < length moves → length os ≡ i
+      → MadeAll meaning r (map move_call (take i moves)) os n s → MadeOne meaning s i (get_or moves i d) o t → later ≡ os ++ (o ∷ []) → n' ≡ n + cond (is_err o) 1 0
+      → MadeAll meaning r (map move_call (take (i + 1) moves)) later n' t
+  made_more r s t moves i d os later n n' o low long so_far one added counted =
+      let call = move_call (get_or moves i d) in
+      let more : map move_call (take (i + 1) moves) ≡ map move_call (take i moves) ++ (move_call (get_or moves i d) ∷ []) = map_more move_call moves i d low in
+      let K : List Call → Type 0 = λ v. Led meaning r v (so_far.answers ++ (one.answer ∷ [])) t in
+      let O : List Outcome → Type 0 = λ v. Outcomes 0 (so_far.answers ++ (one.answer ∷ [])) v in
+      record {
+        answers = so_far.answers ++ (one.answer ∷ []);
+        led = subst K (sym more) (led_on r s t (map move_call (take i moves)) (call ∷ []) so_far.answers (one.answer ∷ []) so_far.led one.led);
+        outcomes = subst O (sym added) (outcomes_more 0 so_far.answers os one.answer o so_far.outcomes (ap (λ k. outcome k one.answer) (let z : 0 + length os ≡ i = omega arith in z) ∙ one.outcome));
+        refused =
+            counted
+            ∙ ap (λ k. k + cond (is_err o) 1 0) so_far.refused
+            ∙ sym (count_more os o)
+            ∙ ap (count_by is_err) (sym added);
+        sizes = one.sizes ∙ so_far.sizes;
+      }
+
+  -- no variable yet, and one more
+  pub none_asked : (r : Running C) → Stands meaning r.network → Led meaning r (domains_asked 0) (map Domain []) r
+  unfolding domains_asked
+  none_asked r h = led_none r h
+
+  pub asked_more : (r s t : Running C) (i d : ℕ) (ds later : List ℕ) → Led meaning r (domains_asked i) (map Domain ds) s → Led meaning s (asks_domain i ∷ []) (Domain d ∷ []) t → later ≡ ds ++ (d ∷ [])
+      → Led meaning r (domains_asked (i + 1)) (map Domain later) t
+  unfolding domains_asked
+  asked_more r s t i d ds later so_far one added =
+      let K : List Call → Type 0 = λ v. Led meaning r v (map Domain later) t in
+      let A : List Answer → Type 0 = λ v. Led meaning r (domains_asked i ++ (asks_domain i ∷ [])) v t in
+      subst K (ap domains_asked (sym (add-one i)))
+      (subst A (sym (ap (map Domain) added ∙ map-append Domain ds (d ∷ [])))
+      (led_on r s t (domains_asked i) (asks_domain i ∷ []) (map Domain ds) (Domain d ∷ []) so_far one))
+
+  -- the whole run
+  pub ran : (catalog : C) (r s t u : Running C) (sizes : List ℕ) (moves : List Move) (n : ℕ) (report : Report) → r.network.catalog ≡ catalog → Blank (moment_at r) → Right (meaning catalog) (moment_at r)
+      → Led meaning r (opens sizes 0 ∷ []) (Opened ∷ []) s → vec_items report.moves ≡ moves → MadeAll meaning s (map move_call moves) (vec_items report.outcomes) report.refused t
+      → n ≡ length sizes → Led meaning t (domains_asked n) (map Domain (vec_items report.domains)) u → Ran (meaning catalog) sizes moves report
+  ran catalog r s t u sizes moves n report same blank right opened kept made many asked =
+      let calls : ℕ → List Call = λ k. (opens sizes 0 ∷ map move_call moves) ++ domains_asked k in
+      let answers : List Answer = (Opened ∷ made.answers) ++ map Domain (vec_items report.domains) in
+      let moved : Led meaning r (opens sizes 0 ∷ map move_call moves) (Opened ∷ made.answers) t =
+      led_on r s t (opens sizes 0 ∷ []) (map move_call moves) (Opened ∷ []) made.answers opened made.led in
+      let all : Led meaning r (calls n) answers u =
+      led_on r t u (opens sizes 0 ∷ map move_call moves) (domains_asked n) (Opened ∷ made.answers) (map Domain (vec_items report.domains)) moved asked in
+      let H : C → Type 0 = λ c. History (meaning c) (moment_at r) (held r) (calls n) answers (moment_at u) (held u) in
+      let K : ℕ → Type 0 = λ k. History (meaning catalog) (moment_at r) (held r) (calls k) answers (moment_at u) (held u) in
+      record {
+        kept = kept;
+        answers = made.answers;
+        lent = held r;
+        last = moment_at u;
+        left = held u;
+        run = record { first = moment_at r; blank = blank; right = right; history = subst K many (subst H same all.history) };
+        outcomes = made.outcomes;
+        refused = made.refused;
+      }

@@ -1,0 +1,13 @@
+// What a run gives.
+use crate::faults::RunFault;
+use network_law::Change;
+use sheet_moves::Move;
+
+// The moves of a run, what came of each, how many were refused, and the domain of each variable after them.
+#[derive(Drop)]
+pub struct Report {
+    pub moves: Vec<Move>,
+    pub outcomes: Vec<Result<Change, RunFault>>,
+    pub refused: usize,
+    pub domains: Vec<u64>,
+}
