@@ -4,5 +4,5 @@
 mod calls;
 mod network;
 
-pub use calls::{Call, perform};
+pub use calls::{Call, Lent, perform};
 pub use network::Network;
