@@ -1,4 +1,2 @@
-pub mod Sets
 pub mod Small
-pub mod Samples
 pub mod Rungs

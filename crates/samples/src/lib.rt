@@ -1,8 +1,7 @@
-// Worked samples: three small catalogs, and what is proved of their largest domains and of the house catalog's rows.
+// Small catalogs, for samples and trials.
 #![tactic(auto)]
 
 ghost use Rattle.std.specs.Prelude.{◌≡◌};
-ghost use Rattle.samples.specs.Samples.{Samples};
 ghost use Rattle.samples.specs.Small.{meaning_of, sample_lawful};
 
 use catalog::Catalog;
@@ -52,8 +51,3 @@ impl Catalog for Sample {
         }
     }
 }
-
-// The samples hold.
-pub fn samples_hold()
-    ensures { Samples }
-{}

@@ -1,1 +1,3 @@
-pub mod Chains
+mod Settled
+mod Chains
+pub mod Worked

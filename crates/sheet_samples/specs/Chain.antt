@@ -1,10 +1,7 @@
 -- A sheet of 102 bytes: a chain of three variables.
-use Rattle.std.specs.Prelude.{◌≡◌, ℕ, List, [], ◌∷◌, Ok}
+use Rattle.std.specs.Prelude.{ℕ, List, [], ◌∷◌}
 use Rattle.catalog.specs.Meaning.{Meaning}
-use Rattle.samples.specs.Sets.{LargestUnder}
-use Rattle.sheet_format.specs.Verdict.{verdict}
-use Rattle.sheet_meaning.specs.Meant.{meaning_of, sheet_in}
-use Rattle.sheet_meaning.specs.Placed.{SizesOf}
+use Rattle.sheet_pile.specs.Pile.{pile_of}
 
 -- three variables of 3 values with the house numbers 0, 1 and 2; the constraints 1 ≤ y - x ≤ 63 on 0 and 1 and on 1 and 2; five moves
 abbrev pub chain_bytes : List ℕ
@@ -22,14 +19,6 @@ chain_bytes =
     0x06 ∷ 0x00 ∷ 0x06 ∷ 0x00 ∷ 0x09 ∷ 0x00 ∷
     0x04 ∷ 0x00 ∷ 0x07 ∷ 0x00 ∷ []
 
--- what the bytes mean
+-- the catalog on which a run of the sheet stands: its constraints have the indices 0 and 1
 abbrev pub chain : Meaning
-chain = meaning_of (sheet_in chain_bytes)
-
-pub record ChainHolds : Type 0 where
-  pub accepted : verdict chain_bytes ≡ Ok (record { variables = 3; constraints = 2; moves = 5; constraints_at = 32; moves_at = 68 })
-  pub sizes : SizesOf (sheet_in chain_bytes) (3 ∷ 3 ∷ 3 ∷ [])
-  -- the largest domains under constraint 0 alone, under both, under 1 alone
-  pub first : LargestUnder chain (3 ∷ 3 ∷ 3 ∷ []) (0 ∷ []) ((0 ∷ 1 ∷ []) ∷ (1 ∷ 2 ∷ []) ∷ (0 ∷ 1 ∷ 2 ∷ []) ∷ [])
-  pub both : LargestUnder chain (3 ∷ 3 ∷ 3 ∷ []) (0 ∷ 1 ∷ []) ((0 ∷ []) ∷ (1 ∷ []) ∷ (2 ∷ []) ∷ [])
-  pub second : LargestUnder chain (3 ∷ 3 ∷ 3 ∷ []) (1 ∷ []) ((0 ∷ 1 ∷ 2 ∷ []) ∷ (0 ∷ 1 ∷ []) ∷ (1 ∷ 2 ∷ []) ∷ [])
+chain = pile_of chain_bytes

@@ -1,8 +1,9 @@
-// A worked sheet, and what is proved of its bytes.
+// A worked sheet and other samples, and what is proved of them.
 #![tactic(auto)]
 
 ghost use Rattle.std.specs.Prelude.{◌≡◌};
-ghost use Rattle.sheet_samples.specs.Chain.{chain_bytes, ChainHolds};
+ghost use Rattle.sheet_samples.specs.Chain.{chain_bytes};
+ghost use Rattle.sheet_samples.specs.Samples.{Samples};
 
 const CHAIN: [u8; 102] = [
     // heading: three variables
@@ -33,11 +34,11 @@ const CHAIN: [u8; 102] = [
     0x04, 0x00, 0x07, 0x00,
 ];
 
-// The bytes of the sheet. That the largest domains are those listed is proved of what these bytes mean.
-#[tactic(auto, using(crate::proofs::Chains::holds))]
+// The bytes of the chain's sheet. The samples hold: those of the chain are said of these very bytes, and of the catalog on which a run of them stands.
+#[tactic(auto, using(crate::proofs::Worked::samples))]
 pub fn chain_sheet() -> [u8; 102]
     ensures bytes { result ≡ chain_bytes }
-    ensures holds { ChainHolds }
+    ensures samples { Samples }
 {
     CHAIN
 }

@@ -1,6 +1,9 @@
 // Which variables and constraints a list of calls has brought about, kept by the trials themselves, which share with the solvers that they judge only
 // the catalogs, the sets of bits and the names of the causes of refusal.
+use crate::clock::Clock;
 use catalog::Catalog;
+use network::Lent;
+use network_law::Change;
 use refusal::Refusal;
 use std::alloc::{AllocError, Global};
 use std::ops::Range;
@@ -28,11 +31,21 @@ pub struct Book {
     // every value of every variable
     pub values: Vec<Value>,
     present: [bool; 128],
+    clock: Clock,
+}
+
+// Are these sizes of variables, or why not?
+pub fn may_open(sizes: &[usize]) -> Result<(), Refusal> {
+    match sizes.len() {
+        1..=32 if sizes.iter().all(|size| 0 < *size && *size < 65) => Ok(()),
+        1..=32 => Err(Refusal::DomainSize),
+        _ => Err(Refusal::VariableCount),
+    }
 }
 
 impl Book {
-    // These variables, and no constraint in.
-    pub fn open(heap: Global, sizes: Vec<usize>) -> Result<Book, AllocError> {
+    // These variables, no constraint in, and the clock at that time.
+    pub fn open(heap: Global, sizes: Vec<usize>, time: u32) -> Result<Book, AllocError> {
         let mut values = Vec::new(heap);
         for (variable, size) in sizes.iter().enumerate() {
             for value in 0..*size {
@@ -44,6 +57,7 @@ impl Book {
             sizes,
             values,
             present,
+            clock: Clock::at(time),
         })
     }
 
@@ -79,7 +93,7 @@ impl Book {
         }
     }
 
-    // Is the call to be accepted, or why not?
+    // Do the variables and what is in allow the call, or why not?
     pub fn may<C: Catalog>(&self, catalog: &C, call: Call) -> Result<(), Refusal> {
         match call {
             Call::Add(p) => self.may_add(catalog, p),
@@ -89,11 +103,45 @@ impl Book {
         }
     }
 
-    // Notes a call that is accepted.
-    pub fn note(&mut self, call: Call) {
+    // Do the buffers and the clock allow a call that the rest allows, or why not? Where the book does not know whether the clock is spent, it is as is `said`.
+    pub fn may_now(&self, lent: Lent, said: bool) -> Result<(), Refusal> {
+        if lent.waiting < 128 || lent.returning < 2048 {
+            Err(Refusal::ShortBuffer)
+        } else if self.clock.spent().unwrap_or(said) {
+            Err(Refusal::ClockSpent)
+        } else {
+            Ok(())
+        }
+    }
+
+    // May the domain of a variable be asked, and whether its value is shown, and why it is out, or why not?
+    pub fn may_ask(&self, value: Value) -> [Result<(), Refusal>; 3] {
+        let Value { variable, value } = value;
+        let missing = Err(Refusal::NoSuchValue);
+        let domain = if variable < self.sizes.len() {
+            Ok(())
+        } else {
+            missing
+        };
+        let of_value = if value < self.size(variable) {
+            Ok(())
+        } else {
+            missing
+        };
+        [domain, of_value, of_value]
+    }
+
+    // Notes a call that is accepted, and what it changed.
+    pub fn note(&mut self, call: Call, change: Change) {
         match call {
-            Call::Add(p) => self.set_in(p, true),
-            Call::Retract(p) => self.set_in(p, false),
+            Call::Add(p) => {
+                self.set_in(p, true);
+                self.clock = self.clock.after_add(change.values);
+            }
+            Call::Retract(p) => {
+                self.set_in(p, false);
+                self.clock = self.clock.after_retract();
+            }
         }
     }
 

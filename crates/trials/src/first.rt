@@ -1,50 +1,77 @@
 // What the network tells.
 use crate::book::{Book, Call, Value};
-use crate::lent::Lent;
+use crate::borrowed::Borrowed;
 use crate::told::{Account, Told};
 use crate::trouble::Trouble;
 use catalog::Catalog;
 use domains::Returning;
-use network::Network;
-use network_law::Change;
+use network::{Lent, Network};
+use network_law::{Answer, Change};
 use refusal::Refusal;
 use std::alloc::{AllocError, Global};
 
-// A network, and the rooms that it is lent at each change: two literals, in lists. With arrays here the borrow checker has no rule yet for the call of
+// A network, and the buffers of which it is lent a part at each change: two literals, in lists. With arrays here the borrow checker has no rule yet for the call of
 // `tell` in `Trial::open`.
 #[derive(Drop)]
 pub struct First<'a, C> {
-    network: Network<Lent<'a, C>>,
+    network: Network<Borrowed<'a, C>>,
     waiting: Vec<u8>,
     returning: Vec<Returning>,
 }
 
 impl<'a, C: Catalog> First<'a, C> {
+    // The buffers have more entries than any change needs.
     pub fn new(heap: Global, catalog: &'a C) -> Result<First<'a, C>, AllocError> {
-        let waiting = vec![in heap; 0; 128]?;
-        let returning = vec![in heap; Returning::default(); 2048]?;
+        let waiting = vec![in heap; 0; 130]?;
+        let returning = vec![in heap; Returning::default(); 2050]?;
         Ok(First {
-            network: Network::new(Lent { catalog }),
+            network: Network::new(Borrowed { catalog }),
             waiting,
             returning,
         })
     }
 
-    pub fn open(&mut self, sizes: &[usize], time: u32) -> Result<(), Refusal> {
-        self.network.open(sizes, time)
-    }
-
-    // Makes a call.
-    pub fn make(&mut self, call: Call) -> Result<Change, Refusal> {
+    // The answer to one call.
+    fn answer(&mut self, call: network::Call<'_>) -> Answer {
         let First {
             network,
             waiting,
             returning,
         } = self;
-        match call {
-            Call::Add(p) => network.add(p, waiting, returning),
-            Call::Retract(p) => network.retract(p, waiting, returning),
+        let mut answers = [Answer::Opened];
+        network.perform(&[call], &mut answers, waiting, returning);
+        let [answer] = answers;
+        answer
+    }
+
+    pub fn open(&mut self, sizes: &[usize], time: u32) -> Result<(), Refusal> {
+        match self.answer(network::Call::Open { sizes, time }) {
+            Answer::Refused(cause) => Err(cause),
+            _ => Ok(()),
         }
+    }
+
+    // Makes a call with so much of the buffers.
+    pub fn make(&mut self, call: Call, lent: Lent) -> Result<Result<Change, Refusal>, Trouble> {
+        let call = match call {
+            Call::Add(constraint) => network::Call::Add { constraint, lent },
+            Call::Retract(constraint) => network::Call::Retract { constraint, lent },
+        };
+        match self.answer(call) {
+            Answer::Changed(change) => Ok(Ok(change)),
+            Answer::Refused(cause) => Ok(Err(cause)),
+            _ => Err(Trouble::Answer),
+        }
+    }
+
+    // Are the questions for the domain of a variable, whether its value is shown and why it is out answered, or why not?
+    pub fn asks(&self, value: Value) -> [Result<(), Refusal>; 3] {
+        let Value { variable, value } = value;
+        [
+            self.network.domain(variable).map(|_| ()),
+            self.network.is_shown(variable, value).map(|_| ()),
+            self.network.justification(variable, value).map(|_| ()),
+        ]
     }
 
     pub fn wiped_out(&self) -> Option<usize> {

@@ -3,27 +3,33 @@
 #![tactic(auto)]
 
 mod book;
+mod borrowed;
+mod clock;
+mod draws;
 mod expected;
 mod first;
 mod judge;
-mod lent;
+mod met;
 mod rests;
 mod second;
 mod told;
 mod trial;
 mod trouble;
 
+use bits::Values;
 use catalog::joined::Joined;
 use catalog::renumbered::Renumbered;
+use draws::{Draws, Shape};
 use house::HouseCatalog;
+use met::Met;
 use random::density::Density;
 use random::{Random, made};
 use samples::ladder::Ladder;
 use std::io;
-use trial::{Draws, Shape, list};
+use trial::list;
 use trouble::Trouble;
 
-fn tables(draws: Draws<'_>) -> Result<(), Trouble> {
+fn tables(draws: Draws<'_>) -> Result<Met, Trouble> {
     let shape = draws.shape.narrowed(draws.random);
     let count = draws.random.between(1, 12);
     let density = Density::from(draws.random.below(3));
@@ -31,14 +37,14 @@ fn tables(draws: Draws<'_>) -> Result<(), Trouble> {
     list(Draws { shape, ..draws }, &catalog)
 }
 
-fn sums(draws: Draws<'_>) -> Result<(), Trouble> {
+fn sums(draws: Draws<'_>) -> Result<Met, Trouble> {
     let shape = draws.shape.narrowed(draws.random);
     let count = draws.random.between(1, 12);
     let catalog = made::sums(draws.random, count, shape.variables, shape.values);
     list(Draws { shape, ..draws }, &catalog)
 }
 
-fn renumbered(draws: Draws<'_>) -> Result<(), Trouble> {
+fn renumbered(draws: Draws<'_>) -> Result<Met, Trouble> {
     let Shape { variables, .. } = draws.shape;
     let catalog = made::tables(draws.random, 10, variables, Density::Half);
     let numbering = made::numbering(draws.random, variables);
@@ -46,7 +52,7 @@ fn renumbered(draws: Draws<'_>) -> Result<(), Trouble> {
 }
 
 // Renumbered sums, then tables, then the house constraints.
-fn joined(draws: Draws<'_>) -> Result<(), Trouble> {
+fn joined(draws: Draws<'_>) -> Result<Met, Trouble> {
     let Shape {
         variables,
         values,
@@ -63,7 +69,7 @@ fn joined(draws: Draws<'_>) -> Result<(), Trouble> {
 }
 
 // A ladder that with the house constraints passes 128.
-fn ladder(draws: Draws<'_>) -> Result<(), Trouble> {
+fn ladder(draws: Draws<'_>) -> Result<Met, Trouble> {
     let pile = Joined {
         first: Ladder { rungs: 126 },
         second: HouseCatalog,
@@ -71,7 +77,7 @@ fn ladder(draws: Draws<'_>) -> Result<(), Trouble> {
     list(draws, &pile)
 }
 
-fn house(draws: Draws<'_>) -> Result<(), Trouble> {
+fn house(draws: Draws<'_>) -> Result<Met, Trouble> {
     list(draws, &HouseCatalog)
 }
 
@@ -87,32 +93,33 @@ struct Trials {
 const SMALL: Shape = Shape {
     variables: 5,
     values: 5,
-    calls: 11,
+    changes: 11,
 };
 
 const WIDE: Shape = Shape {
     variables: 6,
     values: 64,
-    calls: 9,
+    changes: 9,
 };
 
 const LONG: Shape = Shape {
     variables: 12,
     values: 14,
-    calls: 19,
+    changes: 19,
 };
 
-// So many lists and calls so far, and whether all agreed.
+// So many lists and calls so far, which causes of refusal were met, and whether all agreed.
 #[derive(Clone, Copy)]
 struct Total {
     lists: usize,
     calls: usize,
+    met: Met,
     agreed: bool,
 }
 
 impl Total {
     // Performs the trials, each list on a catalog of that make, prints what came of them, and adds them to what there were so far.
-    fn perform<F: Fn(Draws<'_>) -> Result<(), Trouble>>(
+    fn perform<F: Fn(Draws<'_>) -> Result<Met, Trouble>>(
         &mut self,
         rt: &HostRuntime,
         trials: Trials,
@@ -136,9 +143,12 @@ impl Total {
                 random: &mut random,
                 shape,
             };
-            if let Err(trouble) = make(draws) {
-                self.agreed = false;
-                return println!(rt; "{name}: list {number}: {trouble:?}");
+            match make(draws) {
+                Ok(met) => self.met = self.met.joined(met),
+                Err(trouble) => {
+                    self.agreed = false;
+                    return println!(rt; "{name}: list {number}: {trouble:?}");
+                }
             }
         }
         println!(rt; "{name}: {lists} lists of {calls} calls")
@@ -191,6 +201,7 @@ fn main(rt: HostRuntime) -> io::Result<()> {
     let mut total = Total {
         lists: 0,
         calls: 0,
+        met: Met::NONE,
         agreed: true,
     };
     total.perform(&rt, TABLES, tables)?;
@@ -202,8 +213,11 @@ fn main(rt: HostRuntime) -> io::Result<()> {
     let Total {
         lists,
         calls,
+        met,
         agreed,
     } = total;
+    let causes = Values(met.numbers);
+    println!(rt; "refused by{causes}")?;
     if agreed {
         println!(rt; "{lists} lists, {calls} calls: all agreed")
     } else {

@@ -1,65 +1,19 @@
 // One list of calls: after each of them every party is to tell the same.
-use crate::book::{Book, Call};
+use crate::book::{Book, Call, may_open};
+use crate::draws::Draws;
 use crate::expected;
 use crate::first::First;
 use crate::judge::Judge;
+use crate::met::Met;
 use crate::second::Second;
 use crate::told::Told;
 use crate::trouble::Trouble;
 use acdc2::fault::Fault;
 use catalog::Catalog;
 use network_law::Change;
-use random::Random;
 use refusal::Refusal;
-use std::alloc::{AllocError, Global};
+use std::alloc::Global;
 use wiped::wiped_out;
-
-// How large the networks of a list may be, and how many calls follow each opening.
-#[derive(Clone, Copy)]
-pub struct Shape {
-    pub variables: usize,
-    pub values: usize,
-    pub calls: usize,
-}
-
-impl Shape {
-    // How many calls a list has: it opens the network twice.
-    pub fn all_calls(self) -> usize {
-        self.calls.wrapping_add(1).wrapping_mul(2)
-    }
-
-    // With any number of variables from 2 up to as many.
-    pub fn narrowed(self, random: &mut Random) -> Shape {
-        Shape {
-            variables: random.between(2, self.variables),
-            ..self
-        }
-    }
-}
-
-// What a list of calls is drawn from, and the memory for its trial.
-#[derive(Drop)]
-pub struct Draws<'a> {
-    pub heap: Global,
-    pub random: &'a mut Random,
-    pub shape: Shape,
-}
-
-impl Draws<'_> {
-    // Sizes for as many variables, or now and then for one fewer.
-    fn sizes(&mut self) -> Result<Vec<usize>, AllocError> {
-        let Shape {
-            variables,
-            values,
-            ..
-        } = self.shape;
-        let fewer = self.random.below(12) / 10;
-        let n = variables.clamp(2, 32) - fewer;
-        (0..n)
-            .map(|_| self.random.between(1, values))
-            .collect(self.heap)
-    }
-}
 
 // After an opening: the book that the trials keep, what stood after the last call by the computation from scratch and by the network, and the
 // second solver.
@@ -110,32 +64,16 @@ fn check_kept<C: Catalog>(
     }
 }
 
-// A network on a catalog, and what the trial is drawn from.
+// A network on a catalog, what the trial is drawn from, and the causes of refusal that were due.
 #[derive(Drop)]
 struct Trial<'a, C> {
     draws: Draws<'a>,
     catalog: &'a C,
     first: First<'a, C>,
+    met: Met,
 }
 
 impl<'a, C: Catalog> Trial<'a, C> {
-    // A constraint to add or retract: mostly one that there is.
-    fn draw_constraint(&mut self) -> usize {
-        let past = self.draws.random.below(12) / 10;
-        self.draws.random.below(self.catalog.count() + 2 * past)
-    }
-
-    // A call: mostly what is out is added and what is in retracted.
-    fn draw_call(&mut self, book: &Book) -> Call {
-        let p = self.draw_constraint();
-        let usual = self.draws.random.below(8) != 0;
-        if book.is_in(p) != usual {
-            Call::Add(p)
-        } else {
-            Call::Retract(p)
-        }
-    }
-
     // What was told, to be judged by the book.
     fn judge<'b>(&self, book: &'b Book, told: &'b Told) -> Judge<'b, C>
     where
@@ -188,10 +126,10 @@ impl<'a, C: Catalog> Trial<'a, C> {
     fn open(&mut self) -> Result<Parties<'a, C>, Trouble> {
         let heap = self.draws.heap;
         let sizes = self.draws.sizes()?;
-        let time = self.draws.random.below(4_000_000_000) as u32;
+        let time = self.draws.time();
         self.first.open(&sizes, time)?;
         let second = Second::open(heap, self.catalog, &sizes)?;
-        let book = Book::open(heap, sizes)?;
+        let book = Book::open(heap, sizes, time)?;
         let parties = Parties {
             domains: expected::domains(heap, self.catalog, &book)?,
             told: self.first.tell(heap, &book)?,
@@ -202,21 +140,41 @@ impl<'a, C: Catalog> Trial<'a, C> {
         Ok(parties)
     }
 
-    // Makes one call of every party, and compares.
+    // What the network told after a call replaces what it told before, of which nothing may be lost but what rests on what was retracted.
+    fn replace_told(
+        &self,
+        parties: &mut Parties<'a, C>,
+        retracted: Option<usize>,
+    ) -> Result<(), Trouble> {
+        let heap = self.draws.heap;
+        let told = self.first.tell(heap, &parties.book)?;
+        let before = self.judge(&parties.book, &parties.told);
+        check_kept(heap, &before, &told, retracted)?;
+        parties.told = told;
+        Ok(())
+    }
+
+    // Makes one call of every party, and compares. The second solver has no buffers and no clock: it is not called where these alone turn the call down.
     fn perform(&mut self, parties: &mut Parties<'a, C>, call: Call) -> Result<(), Trouble> {
         let heap = self.draws.heap;
-        let due = parties.book.may(self.catalog, call);
-        let answer = self.first.make(call);
-        check_done(parties.second.make(heap, call), due)?;
-        let told = self.first.tell(heap, &parties.book)?;
+        let lent = self.draws.lent();
+        let answer = self.first.make(call, lent)?;
+        let of_all = parties.book.may(self.catalog, call);
+        let of_lent = parties
+            .book
+            .may_now(lent, answer == Err(Refusal::ClockSpent));
+        if of_all.is_err() || of_lent.is_ok() {
+            check_done(parties.second.make(heap, call), of_all)?;
+        }
+        let due = of_all.and(of_lent);
+        self.met.note(due);
         let retracted = match call {
             Call::Retract(p) if due.is_ok() => Some(p),
             _ => None,
         };
-        let before = self.judge(&parties.book, &parties.told);
-        check_kept(heap, &before, &told, retracted)?;
-        if due.is_ok() {
-            parties.book.note(call);
+        self.replace_told(parties, retracted)?;
+        if let Ok(change) = answer {
+            parties.book.note(call, change);
         }
         let domains = expected::domains(heap, self.catalog, &parties.book)?;
         let change = Change {
@@ -225,29 +183,63 @@ impl<'a, C: Catalog> Trial<'a, C> {
         };
         check_answer(answer, due.map(|()| change))?;
         parties.domains = domains;
-        parties.told = told;
         self.check(parties)
     }
 
-    // Opens the network and makes calls.
+    // Tries an opening that is refused, and forgets nothing.
+    fn open_in_vain(&mut self, parties: &mut Parties<'a, C>) -> Result<(), Trouble> {
+        let sizes = self.draws.bad_sizes()?;
+        let time = self.draws.time();
+        let due = may_open(&sizes);
+        self.met.note(due);
+        if due.is_ok() || self.first.open(&sizes, time) != due {
+            return Err(Trouble::OtherCause);
+        }
+        self.replace_told(parties, None)?;
+        self.check_first(parties)
+    }
+
+    // Asks about a value, which may not be there.
+    fn ask(&mut self, book: &Book) -> Result<(), Trouble> {
+        let value = self.draws.value(book);
+        let due = book.may_ask(value);
+        for answer in due {
+            self.met.note(answer);
+        }
+        if self.first.asks(value) == due {
+            Ok(())
+        } else {
+            Err(Trouble::OtherCause)
+        }
+    }
+
+    // Opens the network and makes calls, with a question after each, and before one of them an opening that is refused.
     fn calls(&mut self) -> Result<(), Trouble> {
         let mut parties = self.open()?;
-        for _ in 0..self.draws.shape.calls {
-            let call = self.draw_call(&parties.book);
+        let changes = self.draws.shape.changes;
+        let vain = self.draws.random.below(changes);
+        for turn in 0..changes {
+            if turn == vain {
+                self.open_in_vain(&mut parties)?;
+            }
+            let call = self.draws.call(&parties.book, self.catalog.count());
             self.perform(&mut parties, call)?;
+            self.ask(&parties.book)?;
         }
         Ok(())
     }
 }
 
-// Makes a network, and twice opens it and makes calls.
-pub fn list<C: Catalog>(draws: Draws<'_>, catalog: &C) -> Result<(), Trouble> {
+// Makes a network, and twice opens it and makes calls. Gives the causes by which calls were refused.
+pub fn list<C: Catalog>(draws: Draws<'_>, catalog: &C) -> Result<Met, Trouble> {
     let first = First::new(draws.heap, catalog)?;
     let mut trial = Trial {
         draws,
         catalog,
         first,
+        met: Met::NONE,
     };
     trial.calls()?;
-    trial.calls()
+    trial.calls()?;
+    Ok(trial.met)
 }

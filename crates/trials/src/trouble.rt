@@ -16,6 +16,10 @@ pub enum Trouble {
     SecondJustification,
     // the network refused a call that is to be accepted, or a question
     Refusal,
+    // the network answered a change as if it were another call
+    Answer,
+    // the network refused an opening or a question by another cause, or accepted it
+    OtherCause,
     // the network refused a call by another cause, or accepted it, or refused one that is to be accepted
     Cause,
     // the network has other domains than those from scratch

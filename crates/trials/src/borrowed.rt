@@ -4,11 +4,11 @@ ghost use Rattle.std.specs.Prelude.{◌≡◌, ◌≤◌};
 use catalog::Catalog;
 
 #[derive(Drop)]
-pub struct Lent<'a, C> {
+pub struct Borrowed<'a, C> {
     pub catalog: &'a C,
 }
 
-impl<C: Catalog> Catalog for Lent<'_, C> {
+impl<C: Catalog> Catalog for Borrowed<'_, C> {
     ghost meaning = { λ s. C.Catalog.meaning s.catalog.now };
 
     ghost lawful = { λ s. C.Catalog.lawful s.catalog.now };

@@ -10,7 +10,7 @@ use Rattle.catalog.specs.Constraints.{arcs_of}
 use Rattle.house.specs.Table.{all_below}
 use Rattle.house.proofs.Tables.{at_each}
 use Rattle.scratch.specs.Named.{named}
-use Rattle.samples.specs.Sets.{among, sets_of, LargestUnder}
+use Rattle.sheet_samples.specs.Sets.{among, sets_of, LargestUnder}
 
 abbrev every : (ℕ → Bool) → List ℕ → Bool
 every f [] = true

@@ -1,11 +1,15 @@
--- Worked samples of the largest domains, and of the house catalog's rows.
-use Rattle.std.specs.Prelude.{◌≡◌, ℕ, ◌^◌, ◌<◌, ◌&&◌, [], ◌∷◌, Some, nat_le}
+-- Worked samples: what a sheet's own bytes hold, the largest domains, and rows of the house catalog.
+use Rattle.std.specs.Prelude.{◌≡◌, ℕ, ◌^◌, ◌<◌, ◌&&◌, [], ◌∷◌, Some, Ok, nat_le}
 use Rattle.arcs.specs.WipedOut.{WipedOut}
 use Rattle.bits.specs.Bits.{has_bit}
 use Rattle.catalog.specs.Meaning.{Meaning, allowed}
 use Rattle.house.specs.House.{house}
-use Rattle.samples.specs.Sets.{LargestUnder, sets_of}
-use Rattle.samples.specs.Small.{chain, ordered, crossed}
+use Rattle.samples.specs.Small.{ordered, crossed}
+use Rattle.sheet_format.specs.Verdict.{verdict}
+use Rattle.sheet_meaning.specs.Meant.{sheet_in}
+use Rattle.sheet_meaning.specs.Placed.{SizesOf}
+use Rattle.sheet_samples.specs.Chain.{chain_bytes, chain}
+use Rattle.sheet_samples.specs.Sets.{LargestUnder, sets_of}
 
 -- `row` as a u64: bit y is set just when p allows y beside x
 pub record IsRow (m : Meaning) (p x row : ℕ) : Type 0 where
@@ -13,7 +17,10 @@ pub record IsRow (m : Meaning) (p x row : ℕ) : Type 0 where
   pub bits : (y : ℕ) → has_bit row y ≡ allowed m p x y
 
 pub record Samples : Type 0 where
-  -- three variables of 3 values in a chain: under constraint 0 alone, under both, under 1 alone
+  -- the chain's 102 bytes are accepted: 3 variables, 2 constraints, 5 moves, the constraints from byte 32 and the moves from byte 68
+  pub chain_accepted : verdict chain_bytes ≡ Ok (record { variables = 3; constraints = 2; moves = 5; constraints_at = 32; moves_at = 68 })
+  pub chain_sizes : SizesOf (sheet_in chain_bytes) (3 ∷ 3 ∷ 3 ∷ [])
+  -- on the catalog of a run: under constraint 0 alone, under both, under 1 alone
   pub chain_first : LargestUnder chain (3 ∷ 3 ∷ 3 ∷ []) (0 ∷ []) ((0 ∷ 1 ∷ []) ∷ (1 ∷ 2 ∷ []) ∷ (0 ∷ 1 ∷ 2 ∷ []) ∷ [])
   pub chain_both : LargestUnder chain (3 ∷ 3 ∷ 3 ∷ []) (0 ∷ 1 ∷ []) ((0 ∷ []) ∷ (1 ∷ []) ∷ (2 ∷ []) ∷ [])
   pub chain_second : LargestUnder chain (3 ∷ 3 ∷ 3 ∷ []) (1 ∷ []) ((0 ∷ 1 ∷ 2 ∷ []) ∷ (0 ∷ 1 ∷ []) ∷ (1 ∷ 2 ∷ []) ∷ [])

@@ -1,21 +1,24 @@
+-- That the samples hold.
 use Rattle.std.proofs.Common.{◌≡◌, ℕ, ◌&&◌, ltb, leb, [], ◌∷◌, refl, ◌∙◌, arith, lit<}
 use Rattle.std.proofs.lemmas.Bool.Decides.{nat_tests}
 use Rattle.bits.proofs.Bitwise.{has_mask}
 use Rattle.house.specs.Table.{all_below}
-use Rattle.samples.specs.Small.{chain, ordered, crossed}
-use Rattle.samples.proofs.Settled.{largest_under}
-use Rattle.samples.proofs.samples_hold.Goals as goal
+use Rattle.samples.specs.Small.{ordered, crossed}
+use Rattle.sheet_samples.specs.Samples.{Samples}
+use Rattle.sheet_samples.proofs.Chains.{accepted, sizes, first, both, second}
+use Rattle.sheet_samples.proofs.Settled.{largest_under}
 
 low_six : (y : ℕ) → ltb y 6 ≡ (ltb y 64 && leb y 5)
 low_six y = grind (arith, nat_tests)
 
-pub returns : goal.returns
+pub samples : Samples
 unfolding all_below
-returns c = record {
-  chain_first = largest_under chain (3 ∷ 3 ∷ 3 ∷ []) (0 ∷ []) ((0 ∷ 1 ∷ []) ∷ (1 ∷ 2 ∷ []) ∷ (0 ∷ 1 ∷ 2 ∷ []) ∷ []) ((0, 2, 0) ∷ (1, 0, 0) ∷ []) refl;
-  chain_both = largest_under chain (3 ∷ 3 ∷ 3 ∷ []) (0 ∷ 1 ∷ []) ((0 ∷ []) ∷ (1 ∷ []) ∷ (2 ∷ []) ∷ [])
-      ((0, 1, 0) ∷ (2, 1, 1) ∷ (1, 2, 1) ∷ (2, 0, 1) ∷ (0, 2, 0) ∷ (1, 0, 0) ∷ []) refl;
-  chain_second = largest_under chain (3 ∷ 3 ∷ 3 ∷ []) (1 ∷ []) ((0 ∷ 1 ∷ 2 ∷ []) ∷ (0 ∷ 1 ∷ []) ∷ (1 ∷ 2 ∷ []) ∷ []) ((1, 2, 1) ∷ (2, 0, 1) ∷ []) refl;
+samples = record {
+  chain_accepted = accepted;
+  chain_sizes = sizes;
+  chain_first = first;
+  chain_both = both;
+  chain_second = second;
   nothing_out = largest_under ordered (3 ∷ 3 ∷ []) (0 ∷ 1 ∷ []) ((0 ∷ 1 ∷ 2 ∷ []) ∷ (0 ∷ 1 ∷ 2 ∷ []) ∷ []) [] refl;
   both_empty = largest_under crossed (2 ∷ 2 ∷ []) (0 ∷ 1 ∷ []) ([] ∷ [] ∷ []) ((1, 1, 1) ∷ (1, 0, 0) ∷ (0, 0, 1) ∷ (0, 1, 0) ∷ []) refl;
   names_zero = record { below = lit< tt; empty = λ x. refl; before = λ j h. absurd (omega arith) };

@@ -1,0 +1,26 @@
+// Which causes of refusal a trial has met.
+use refusal::Refusal;
+
+// The causes, as a set of their numbers.
+#[derive(Clone, Copy)]
+pub struct Met {
+    pub numbers: u64,
+}
+
+impl Met {
+    pub const NONE: Met = Met { numbers: 0 };
+
+    // The causes of either.
+    pub fn joined(self, other: Met) -> Met {
+        Met {
+            numbers: self.numbers | other.numbers,
+        }
+    }
+
+    // Notes the cause, where an answer is due to be a refusal.
+    pub fn note(&mut self, due: Result<(), Refusal>) {
+        if let Err(cause) = due {
+            self.numbers = bits::with(self.numbers, cause.number() as usize);
+        }
+    }
+}
