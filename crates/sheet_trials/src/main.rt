@@ -9,10 +9,11 @@ use anyhow::{Context, anyhow};
 use both::Both;
 use catalog::Catalog;
 use mixed::MIXED;
-use run_text::{domain_line, move_line};
+use run_text::domain_line;
+use sheet::Accepted;
 use sheet_catalog::SheetCatalog;
 use sheet_moves::{Move, moves_of};
-use sheet_pile::pile;
+use sheet_pile::pile_of;
 use sheet_pile::sizes::Sizes;
 use sheet_samples::chain_sheet;
 
@@ -32,7 +33,10 @@ fn make_moves<C: Catalog + Drop>(
         if outcome.is_err() {
             refused = refused.wrapping_add(1);
         }
-        rt.println(move_line(rt.alloc(), *m, outcome)?)?;
+        match outcome {
+            Ok(change) => println!(rt; "{m} {change}")?,
+            Err(refusal) => println!(rt; "{m} {refusal}")?,
+        }
     }
     let domains = both.domains()?;
     for (variable, domain) in domains.iter().enumerate().take(sizes.len()) {
@@ -55,12 +59,13 @@ struct Case<'a> {
 // Makes a sheet's moves on its own constraints alone, and on the pile of these and the house's.
 fn perform(rt: &HostRuntime, case: Case<'_>) -> anyhow::Result<()> {
     let Case { name, bytes, sizes } = case;
-    let moves = moves_of(rt.alloc(), bytes).map_err(|_| anyhow!("{name} is refused"))?;
+    let sheet = Accepted::new(bytes).map_err(|fault| anyhow!("{name}: {fault}"))?;
+    let moves = moves_of(rt.alloc(), &sheet)?;
     println!(rt; "{name}, its own constraints")?;
     make_moves(
         rt,
-        SheetCatalog::new(bytes),
-        &SheetCatalog::new(bytes),
+        SheetCatalog::of(&sheet),
+        &SheetCatalog::of(&sheet),
         sizes,
         &moves,
     )
@@ -68,9 +73,9 @@ fn perform(rt: &HostRuntime, case: Case<'_>) -> anyhow::Result<()> {
     println!(rt; "{name}, the pile")?;
     make_moves(
         rt,
-        pile(bytes),
-        &pile(bytes),
-        Sizes::of(bytes).as_slice(),
+        pile_of(&sheet),
+        &pile_of(&sheet),
+        Sizes::of(&sheet).as_slice(),
         &moves,
     )
     .context(name)
