@@ -1,14 +1,14 @@
 -- From call to call of a run.
-use Rattle.std.proofs.Common.{◌≡◌, ℕ, suc, ◌+◌, ◌<◌, cond, List, [], ◌∷◌, ◌++◌, map, length, get_or, take, Some, Result, is_err, is_some, count_by, true, vec_items, sym, refl, ap, ◌∙◌, subst, ⊎_elim, add-one, arith}
-use Rattle.std.proofs.lemmas.List.{map_more, map-append}
-use Rattle.std.proofs.lemmas.List.Sums.{sum_by-append}
+use Rattle.std.proofs.Common.{◌≡◌, ℕ, zero, suc, ◌+◌, ◌<◌, List, [], ◌∷◌, ◌++◌, map, length, get_or, take, Some, Result, is_err, is_some, count_by, true, vec_items, sym, refl, ap, ◌∙◌, subst, ⊎_elim, add-one, arith}
+use Rattle.std.proofs.lemmas.List.{length-append, length-map, map_more, map-append}
 use Rattle.catalog.specs.Meaning.{Meaning}
 use Rattle.network_law.specs.declared.Answer.{Answer}
 use Rattle.network_law.specs.declared.Answer.TheVariants.{Domain, Opened}
 use Rattle.network_law.specs.declared.Change.{Change}
+use Rattle.network_law.specs.Buffers.{Buffers}
 use Rattle.network_law.specs.Calls.{Call, asks_domain, opens}
 use Rattle.network_law.specs.History.{History}
-use Rattle.network_law.specs.Moment.{Blank, Right}
+use Rattle.network_law.specs.Moment.{Moment, Blank, Right}
 use Rattle.network_law.specs.Step.{Step}
 use Rattle.network_law.proofs.Histories.{join}
 use Rattle.network.specs.Served.{Stands}
@@ -32,11 +32,26 @@ outcomes_more k [] (p ∷ os) a o h e = absurd h
 outcomes_more k (b ∷ answers) (p ∷ os) a o h e =
     (h.0, outcomes_more (suc k) answers os a o h.1 (ap (λ n. outcome n a) (let z : suc k + length os ≡ k + suc (length os) = omega arith in z) ∙ e))
 
-count_more : (os : List Outcome) (o : Outcome) → count_by is_err (os ++ (o ∷ [])) ≡ count_by is_err os + cond (is_err o) 1 0
-count_more os o =
-    let a : count_by is_err (os ++ (o ∷ [])) ≡ count_by is_err os + count_by is_err (o ∷ []) = sum_by-append (λ x. cond (is_err x) 1 0) os (o ∷ []) in
-    let b : count_by is_err (o ∷ []) ≡ cond (is_err o) 1 0 = omega arith in
-    a ∙ ap (λ k. count_by is_err os + k) b
+-- as many answers as calls, outcomes as answers, and questions as variables
+history_long : (m : Meaning) (s : Moment) (b : Buffers) (ks : List Call) (answers : List Answer) (t : Moment) (c : Buffers) → History m s b ks answers t c → length answers ≡ length ks
+history_long m s b [] [] t c h = refl
+history_long m s b [] (a ∷ answers) t c h = absurd h
+history_long m s b (k ∷ ks) [] t c h = absurd h
+history_long m s b (k ∷ ks) (a ∷ answers) t c h = ap suc (history_long m h.0 h.1 ks answers t c h.3)
+
+outcomes_long : (k : ℕ) (answers : List Answer) (os : List Outcome) → Outcomes k answers os → length os ≡ length answers
+outcomes_long k [] [] h = refl
+outcomes_long k (a ∷ answers) [] h = absurd h
+outcomes_long k [] (o ∷ os) h = absurd h
+outcomes_long k (a ∷ answers) (o ∷ os) h = ap suc (outcomes_long (suc k) answers os h.1)
+
+asked_long : (n : ℕ) → length (domains_asked n) ≡ n
+unfolding domains_asked
+asked_long zero = refl
+asked_long (suc n) = let k = length-append (domains_asked n) (asks_domain n ∷ []) in let e = asked_long n in omega arith
+
+pub one_longer : (os later : List Outcome) (o : Outcome) (i : ℕ) → length os ≡ i → later ≡ os ++ (o ∷ []) → length later ≡ i + 1
+one_longer os later o i e added = ap length added ∙ length-append os (o ∷ []) ∙ ap (λ k. k + 1) e
 
 module _ {C : Type 0} (meaning : C → Meaning) where
   -- one call was a step of the law
@@ -71,13 +86,13 @@ module _ {C : Type 0} (meaning : C → Meaning) where
   led_none r h = record { stands = h; catalog = refl; history = (refl, refl) }
 
   -- no move yet, and one more
-  pub none_made : (r : Running C) (moves : List Move) → Stands meaning r.network → MadeAll meaning r (map move_call (take 0 moves)) [] 0 r
-  none_made r moves h = record { answers = []; led = led_none r h; outcomes = tt; refused = refl; sizes = refl }
+  pub none_made : (r : Running C) (moves : List Move) → Stands meaning r.network → MadeAll meaning r (map move_call (take 0 moves)) [] r
+  none_made r moves h = record { answers = []; led = led_none r h; outcomes = tt; sizes = refl }
 
-  pub made_more : (r s t : Running C) (moves : List Move) (i : ℕ) (d : Move) (os later : List Outcome) (n n' : ℕ) (o : Outcome) → i < length moves → length os ≡ i
-      → MadeAll meaning r (map move_call (take i moves)) os n s → MadeOne meaning s i (get_or moves i d) o t → later ≡ os ++ (o ∷ []) → n' ≡ n + cond (is_err o) 1 0
-      → MadeAll meaning r (map move_call (take (i + 1) moves)) later n' t
-  made_more r s t moves i d os later n n' o low long so_far one added counted =
+  pub made_more : (r s t : Running C) (moves : List Move) (i : ℕ) (d : Move) (os later : List Outcome) (o : Outcome) → i < length moves → length os ≡ i
+      → MadeAll meaning r (map move_call (take i moves)) os s → MadeOne meaning s i (get_or moves i d) o t → later ≡ os ++ (o ∷ [])
+      → MadeAll meaning r (map move_call (take (i + 1) moves)) later t
+  made_more r s t moves i d os later o low long so_far one added =
       let call = move_call (get_or moves i d) in
       let more : map move_call (take (i + 1) moves) ≡ map move_call (take i moves) ++ (move_call (get_or moves i d) ∷ []) = map_more move_call moves i d low in
       let K : List Call → Type 0 = λ v. Led meaning r v (so_far.answers ++ (one.answer ∷ [])) t in
@@ -86,11 +101,6 @@ module _ {C : Type 0} (meaning : C → Meaning) where
         answers = so_far.answers ++ (one.answer ∷ []);
         led = subst K (sym more) (led_on r s t (map move_call (take i moves)) (call ∷ []) so_far.answers (one.answer ∷ []) so_far.led one.led);
         outcomes = subst O (sym added) (outcomes_more 0 so_far.answers os one.answer o so_far.outcomes (ap (λ k. outcome k one.answer) (let z : 0 + length os ≡ i = omega arith in z) ∙ one.outcome));
-        refused =
-            counted
-            ∙ ap (λ k. k + cond (is_err o) 1 0) so_far.refused
-            ∙ sym (count_more os o)
-            ∙ ap (count_by is_err) (sym added);
         sizes = one.sizes ∙ so_far.sizes;
       }
 
@@ -110,25 +120,40 @@ module _ {C : Type 0} (meaning : C → Meaning) where
       (led_on r s t (domains_asked i) (asks_domain i ∷ []) (map Domain ds) (Domain d ∷ []) so_far one))
 
   -- the whole run
-  pub ran : (catalog : C) (r s t u : Running C) (sizes : List ℕ) (moves : List Move) (n : ℕ) (report : Report) → r.network.catalog ≡ catalog → Blank (moment_at r) → Right (meaning catalog) (moment_at r)
-      → Led meaning r (opens sizes 0 ∷ []) (Opened ∷ []) s → vec_items report.moves ≡ moves → MadeAll meaning s (map move_call moves) (vec_items report.outcomes) report.refused t
-      → n ≡ length sizes → Led meaning t (domains_asked n) (map Domain (vec_items report.domains)) u → Ran (meaning catalog) sizes moves report
-  ran catalog r s t u sizes moves n report same blank right opened kept made many asked =
-      let calls : ℕ → List Call = λ k. (opens sizes 0 ∷ map move_call moves) ++ domains_asked k in
-      let answers : List Answer = (Opened ∷ made.answers) ++ map Domain (vec_items report.domains) in
-      let moved : Led meaning r (opens sizes 0 ∷ map move_call moves) (Opened ∷ made.answers) t =
-      led_on r s t (opens sizes 0 ∷ []) (map move_call moves) (Opened ∷ []) made.answers opened made.led in
-      let all : Led meaning r (calls n) answers u =
-      led_on r t u (opens sizes 0 ∷ map move_call moves) (domains_asked n) (Opened ∷ made.answers) (map Domain (vec_items report.domains)) moved asked in
-      let H : C → Type 0 = λ c. History (meaning c) (moment_at r) (held r) (calls n) answers (moment_at u) (held u) in
-      let K : ℕ → Type 0 = λ k. History (meaning catalog) (moment_at r) (held r) (calls k) answers (moment_at u) (held u) in
+  pub ran : (catalog : C) (r s t u : Running C) (sizes asked : List ℕ) (given : List Move) (os : List Outcome) (report : Report) → r.network.catalog ≡ catalog → Blank (moment_at r) → Right (meaning catalog) (moment_at r)
+      → Led meaning r (opens sizes 0 ∷ []) (Opened ∷ []) s
+      → given ≡ vec_items report.moves → MadeAll meaning s (map move_call given) (vec_items report.outcomes) t
+      → os ≡ vec_items report.outcomes → report.refused ≡ count_by is_err os
+      → asked ≡ sizes → Led meaning t (domains_asked (length asked)) (map Domain (vec_items report.domains)) u
+      → Ran (meaning catalog) sizes (vec_items report.moves) report
+  ran catalog r s t u sizes asked given os report same blank right opened given_is made os_is counted asked_is questions =
+      let moves : List Move = vec_items report.moves in
+      let M : List Move → Type 0 = λ ms. MadeAll meaning s (map move_call ms) (vec_items report.outcomes) t in
+      let all_made : MadeAll meaning s (map move_call moves) (vec_items report.outcomes) t = subst M given_is made in
+      let answers : List Answer = (Opened ∷ all_made.answers) ++ map Domain (vec_items report.domains) in
+      let calls : List ℕ → List Call = λ ns. (opens sizes 0 ∷ map move_call moves) ++ domains_asked (length ns) in
+      let moved : Led meaning r (opens sizes 0 ∷ map move_call moves) (Opened ∷ all_made.answers) t =
+      led_on r s t (opens sizes 0 ∷ []) (map move_call moves) (Opened ∷ []) all_made.answers opened all_made.led in
+      let all : Led meaning r (calls asked) answers u =
+      led_on r t u (opens sizes 0 ∷ map move_call moves) (domains_asked (length asked)) (Opened ∷ all_made.answers) (map Domain (vec_items report.domains)) moved questions in
+      let H : C → Type 0 = λ c. History (meaning c) (moment_at r) (held r) (calls asked) answers (moment_at u) (held u) in
+      let K : List ℕ → Type 0 = λ ns. History (meaning catalog) (moment_at r) (held r) (calls ns) answers (moment_at u) (held u) in
       record {
-        kept = kept;
-        answers = made.answers;
+        kept = refl;
+        answers = all_made.answers;
         lent = held r;
         last = moment_at u;
         left = held u;
-        run = record { first = moment_at r; blank = blank; right = right; history = subst K many (subst H same all.history) };
-        outcomes = made.outcomes;
-        refused = made.refused;
+        run = record { first = moment_at r; blank = blank; right = right; history = subst K asked_is (subst H same all.history) };
+        outcomes = all_made.outcomes;
+        each_move =
+            outcomes_long 0 all_made.answers (vec_items report.outcomes) all_made.outcomes
+            ∙ history_long _ _ _ (map move_call moves) all_made.answers _ _ all_made.led.history
+            ∙ length-map moves move_call;
+        each_variable =
+            sym (length-map (vec_items report.domains) Domain)
+            ∙ history_long _ _ _ (domains_asked (length asked)) (map Domain (vec_items report.domains)) _ _ questions.history
+            ∙ asked_long (length asked)
+            ∙ ap length asked_is;
+        refused = counted ∙ ap (count_by is_err) os_is;
       }

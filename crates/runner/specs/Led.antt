@@ -1,5 +1,5 @@
 -- What calls on the network of a run lead to.
-use Rattle.std.specs.Prelude.{◌≡◌, ℕ, List, ◌∷◌, [], Some, count_by, is_err, Result}
+use Rattle.std.specs.Prelude.{◌≡◌, ℕ, List, ◌∷◌, [], Some, Result}
 use Rattle.catalog.specs.Meaning.{Meaning}
 use Rattle.network_law.specs.declared.Answer.{Answer}
 use Rattle.network_law.specs.declared.Change.{Change}
@@ -39,10 +39,9 @@ pub record MadeOne {C : Type 0} (meaning : C → Meaning) (r : Running C) (befor
   pub outcome : outcome before answer ≡ Some o
   pub sizes : sizes_at r' ≡ sizes_at r
 
--- the moves were made, with these outcomes, of which so many are refusals
-pub record MadeAll {C : Type 0} (meaning : C → Meaning) (r : Running C) (moves : List Call) (os : List (Result Change RunFault)) (count : ℕ) (r' : Running C) : Type 0 where
+-- the moves were made, with these outcomes
+pub record MadeAll {C : Type 0} (meaning : C → Meaning) (r : Running C) (moves : List Call) (os : List (Result Change RunFault)) (r' : Running C) : Type 0 where
   pub answers : List Answer
   pub led : Led meaning r moves answers r'
   pub outcomes : Outcomes 0 answers os
-  pub refused : count ≡ count_by is_err os
   pub sizes : sizes_at r' ≡ sizes_at r

@@ -1,5 +1,5 @@
 -- What a run gives.
-use Rattle.std.specs.Prelude.{◌≡◌, ℕ, true, List, ◌∷◌, ◌++◌, map, None, Err, count_by, is_err, is_ok, vec_items}
+use Rattle.std.specs.Prelude.{◌≡◌, ℕ, true, List, ◌∷◌, ◌++◌, length, map, None, Err, count_by, is_err, is_ok, vec_items}
 use Rattle.catalog.specs.Meaning.{Meaning}
 use Rattle.network_law.specs.declared.Answer.{Answer}
 use Rattle.network_law.specs.declared.Answer.TheVariants.{Opened, Domain}
@@ -20,7 +20,8 @@ use Rattle.runner.specs.declared.reports.Report.{Report}
 use Rattle.runner.specs.Runs.{calls_for, Outcomes}
 
 -- The moves were made: the network was opened, each move answered, and each variable's domain asked for and given, all by the law of networks; the
--- outcomes are those of the answers to the moves, each refused one with its place; and so many were refused.
+-- outcomes are those of the answers to the moves, one for each, a refused one with its place; there is a domain for each variable; and so many moves were
+-- refused.
 pub record Ran (m : Meaning) (sizes : List ℕ) (moves : List Move) (report : Report) : Type 0 where
   pub kept : vec_items report.moves ≡ moves
   -- the answers to the moves
@@ -30,6 +31,8 @@ pub record Ran (m : Meaning) (sizes : List ℕ) (moves : List Move) (report : Re
   pub left : Buffers
   pub run : Run m lent (calls_for sizes moves) ((Opened ∷ answers) ++ map Domain (vec_items report.domains)) last left
   pub outcomes : Outcomes 0 answers (vec_items report.outcomes)
+  pub each_move : length (vec_items report.outcomes) ≡ length moves
+  pub each_variable : length (vec_items report.domains) ≡ length sizes
   pub refused : report.refused ≡ count_by is_err (vec_items report.outcomes)
 
 -- The sheet is accepted and ran: with the sizes that it gives, which a network takes, and the moves that it encodes, on the pile of its constraints and the house's.

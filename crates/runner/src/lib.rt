@@ -2,6 +2,7 @@
 #![tactic(auto)]
 
 mod faults;
+mod outcomes;
 mod reports;
 mod running;
 mod sheets;

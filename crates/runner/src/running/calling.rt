@@ -1,5 +1,5 @@
 // The calls of a run, one by one.
-ghost use Rattle.std.specs.Prelude.{◌≡◌, ◌<◌, true, [], ◌∷◌, length, Some, is_some};
+ghost use Rattle.std.specs.Prelude.{◌≡◌, ◌<◌, [], ◌∷◌, length};
 ghost use Rattle.network.specs.Requests.{call_of};
 ghost use Rattle.network.specs.Served.{Stands};
 ghost use Rattle.network_law.specs.Calls.{asks_domain, opens};
@@ -7,10 +7,11 @@ ghost use Rattle.network_law.specs.declared.Answer.TheVariants.{Domain as Gives,
 ghost use Rattle.network_law.specs.Moment.{Blank, Right};
 ghost use Rattle.sheet_pile.specs.Sizes.{listed};
 ghost use Rattle.runner.specs.Led.{Led, MadeOne, moment_at, sizes_at};
-ghost use Rattle.runner.specs.Runs.{move_call, outcome, whole};
+ghost use Rattle.runner.specs.Runs.{move_call, whole};
 
 use super::Running;
-use crate::faults::{MoveFault, RunFault};
+use crate::faults::RunFault;
+use crate::outcomes::outcome_of;
 use catalog::Catalog;
 use domains::Returning;
 use network::{Call, Lent, Network};
@@ -37,18 +38,6 @@ fn call_of<'a>(m: Move) -> Call<'a>
             constraint: p as usize,
             lent: WHOLE,
         },
-    }
-}
-
-// What came of the move that has so many before it, by the answer to it.
-fn outcome_of(answer: Answer, before: usize) -> Result<Change, RunFault>
-    requires { is_some (outcome before answer) ≡ true }
-    ensures { outcome before answer ≡ Some result }
-{
-    match answer {
-        Answer::Changed(change) => Ok(change),
-        Answer::Refused(refusal) => Err(MoveFault { before, refusal }.into()),
-        _ => unreachable!(),
     }
 }
 
@@ -95,7 +84,7 @@ impl<C: Catalog> Running<C> {
     }
 
     // Makes the move that has so many before it.
-    #[tactic(auto, using(crate::proofs::Leading::move_known))]
+    #[tactic(auto, using(crate::proofs::Leading::move_known, crate::proofs::Leading::made_one))]
     pub(super) fn make(&mut self, m: Move, before: usize) -> Result<Change, RunFault>
         requires { Stands C.Catalog.meaning self.old.network }
         ensures { MadeOne C.Catalog.meaning self.old before m result self.new }

@@ -9,6 +9,7 @@ ghost use Rattle.runner.specs.Runs.{domains_asked, move_call};
 
 use super::Running;
 use crate::faults::RunFault;
+use crate::outcomes::refusals;
 use crate::reports::Report;
 use catalog::Catalog;
 use network_law::Change;
@@ -16,31 +17,25 @@ use sheet_moves::Move;
 use sheet_pile::sizes::Sizes;
 use std::alloc::{AllocError, Global};
 
-// What came of moves, and how many of them were refused.
-struct Made {
-    outcomes: Vec<Result<Change, RunFault>>,
-    refused: usize,
-}
-
 impl<C: Catalog> Running<C> {
-    // Makes the moves one after another, whether or not one is refused.
-    fn make_all(&mut self, heap: Global, moves: &[Move]) -> Result<Made, AllocError>
+    // Makes the moves one after another, whether or not one is refused: what came of each.
+    fn make_all(
+        &mut self,
+        heap: Global,
+        moves: &[Move],
+    ) -> Result<Vec<Result<Change, RunFault>>, AllocError>
         requires { Stands C.Catalog.meaning self.old.network }
-        ensures { IfOk result (λ made. MadeAll C.Catalog.meaning self.old (map move_call moves.now) (vec_items made.outcomes) made.refused self.new) }
+        ensures { IfOk result (λ v. MadeAll C.Catalog.meaning self.old (map move_call moves.now) v.items self.new) }
     {
         let mut outcomes = Vec::with_capacity(heap, moves.len())?;
-        let mut refused = 0;
         for (before, m) in moves.iter().enumerate() {
-            let outcome = self.make(*m, before);
-            if outcome.is_err() {
-                refused += 1;
-            }
-            outcomes.push_reserved(outcome);
+            outcomes.push_reserved(self.make(*m, before));
         }
-        Ok(Made { outcomes, refused })
+        Ok(outcomes)
     }
 
     // The domain of each variable, of which there are n.
+    #[tactic(auto, using(crate::proofs::Leading::asked_more, crate::proofs::Leading::none_asked))]
     fn domains(&mut self, heap: Global, n: usize) -> Result<Vec<u64>, AllocError>
         requires stands { Stands C.Catalog.meaning self.old.network }
         requires many { length (sizes_at self.old) ≡ n }
@@ -65,7 +60,8 @@ pub fn run_moves<C: Catalog + Drop>(
 {
     let mut run = Running::new(catalog);
     run.open(sizes);
-    let Made { outcomes, refused } = run.make_all(heap, &moves)?;
+    let outcomes = run.make_all(heap, &moves)?;
+    let refused = refusals(&outcomes);
     let domains = run.domains(heap, sizes.as_slice().len())?;
     Ok(Report {
         moves,
