@@ -1,31 +1,22 @@
-// Prints what a network answers at its limits: before it is opened, at the last times, and with rooms that are too short or longer than needed.
+// Prints what a network answers at its limits: before it is opened, at the last times, and with buffers that are too short or longer than needed, call by call and
+// in a list.
 #![tactic(auto)]
 
 mod case;
+mod listed;
 mod rooms;
+mod words;
 
 use case::Case;
 use domains::Justification;
+use listed::list_of_calls;
 use network::Network;
 use network_law::Change;
 use refusal::Refusal;
 use rooms::{ENOUGH, Lengths, NOTHING};
 use samples::Sample;
 use std::fmt;
-
-// A change, in words.
-#[derive(Clone, Copy)]
-struct InWords(Change);
-
-impl fmt::Display for InWords {
-    fn fmt<W: fmt::Write>(&self, f: &mut fmt::Formatter<W>) -> fmt::Result {
-        let values = self.0.values;
-        match self.0.wiped {
-            Some(i) => write!(f, "{values} values, {i} wiped out"),
-            None => write!(f, "{values} values"),
-        }
-    }
-}
+use words::InWords;
 
 // Tells what a call did, or its refusal.
 fn tell<T: fmt::Display + Drop>(
@@ -193,5 +184,5 @@ fn main(rt: HostRuntime) -> anyhow::Result<()> {
     for lengths in [short_of_waiting, short_of_returning, ENOUGH, longer] {
         with_rooms(&rt, lengths)?;
     }
-    Ok(())
+    list_of_calls(&rt)
 }
