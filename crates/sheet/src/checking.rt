@@ -86,7 +86,7 @@ fn walk_through(sheet: &[u8]) -> Result<Summary, SheetFault>
 }
 
 // Accepts a sheet, or finds its first fault. It accepts just the encodings of valid sheets; the bytes before a fault are the longest beginning of
-// one, and as many records as it counts.
+// one, and as many records as it counts, unless a whole sheet is followed by more bytes or there are too many.
 pub fn check(sheet: &[u8]) -> Result<Summary, SheetFault>
     ensures verdict { result ≡ verdict sheet.now }
     ensures law { Law sheet.now result }

@@ -1,5 +1,6 @@
 -- The law of sheets, in the format's own words: bytes are accepted exactly when they are the encoding of a valid sheet, and there is one such;
--- bytes that are refused are so at the end of the longest beginning of a sheet, for the first rule that is broken there. It leaves no other answer.
+-- bytes that are refused are so at the end of the longest beginning of a sheet, for the first rule that is broken there, or after a whole sheet that more
+-- bytes follow, or since there are too many. It leaves no other answer.
 use Rattle.std.specs.Prelude.{◌≡◌, ℕ, ◌+◌, ◌*◌, ◌<◌, ◌≤◌, List, [], ◌++◌, map, length, Ok, Err, Result, ◌≢◌}
 use Rattle.std.specs.List.{flat_map}
 use Rattle.sheet_format.specs.declared.found.Summary.{Summary}
