@@ -1,7 +1,7 @@
 -- A constraint goes in or out: what stays.
 use Rattle.std.proofs.Common.{◌≡◌, ℕ, ◌+◌, ◌*◌, ◌^◌, ◌<◌, ◌≤◌, Bool, true, false, cond, ◌&&◌, ◌||◌, eqb, ltb, List, length, get_or, sym, refl, ap, ◌∙◌, subst, ⊎_elim, arith}
 use Rattle.std.proofs.lemmas.List.{get_or-set_same, get_or-set_other}
-use Rattle.std.proofs.lemmas.Bool.{cases_eq, both_ways, and_parts, and_from, eqb-false}
+use Rattle.std.proofs.lemmas.Bool.{cases_eq, cases_lt, both_ways, and_parts, and_from, eqb-false}
 use Rattle.arcs.specs.Family.{Support, Consistent, Inside}
 use Rattle.bits.specs.Bits.{has_bit}
 use Rattle.justify.specs.Standing.{Out, Timed, Rests}
@@ -12,7 +12,7 @@ use Rattle.domains.specs.declared.TheConstants.{LAST_TIME}
 use Rattle.domains.specs.declared.Constraints.{Constraints}
 use Rattle.domains.specs.declared.Domains.{Domains}
 use Rattle.domains.specs.Model.{within, is_present, left_of, right_of, pair_at, arcs_of, shown, standing, total, reason_is}
-use Rattle.domains.specs.Sound.{Shape, Sound, Went, Supported, Settled}
+use Rattle.domains.specs.Sound.{Rose, Shape, Sound, Went, Supported, Settled}
 use Rattle.domains.specs.Stands.{last_time, Stands, with_present}
 use Rattle.domains.proofs.Entries.{total_few}
 use Rattle.domains.proofs.Facing.{on_present, tied_low}
@@ -157,6 +157,24 @@ module _ (c : Constraints) (d d' : Domains) (p : ℕ) (low : p < 128) (stands : 
     pub dated_out : (d'' : Domains) → Went (with_present c p false) d' d'' → Dated (within c) d.clock (standing d) (standing d'')
     dated_out d'' went =
         dated_trans (within c) d.clock d'.clock (standing d) (standing d') (standing d'') (omega (arith, clock)) release_kept.dated went.dated
+
+    -- the clock rises by one for each value that goes out again
+    pub rose_out : (d'' : Domains) → Inside (within c) (shown d') → Went (with_present c p false) d' d'' → Rose c d d''
+    rose_out d'' inside went =
+        record {
+          between = d';
+          inside = inside;
+          spent = omega (arith, went.spent, clock);
+          fewer = went.fewer;
+          gone = λ i x here gone.
+              ⊎_elim
+              (λ early. absurd (both_ways (shown d' i x) (went.dated i x (record { inside = inside i x here; gone = gone }) (omega (arith, early, clock))).0.gone here))
+              (λ late. late)
+              (cases_lt ((standing d'').time i x) d.clock);
+          stayed = λ i x within_ gone.
+              let o : Out (within c) (standing d') i x = record { inside = within_; gone = gone } in
+              omega (arith, (went.kept i x o).time, release_kept.timed.below i x o);
+        }
 
     -- what does not rest on p keeps its justification
     pub kept_out : (d'' : Domains) → Went (with_present c p false) d' d'' → (i x : ℕ) → Out (within c) (standing d) i x → (Rests (arcs_of c) (within c) (standing d) (reason_is p) i x → ⊥) → Same (standing d) (standing d'') i x

@@ -32,6 +32,16 @@ pub record Went (c : Constraints) (d d' : Domains) : Type 0 where
   pub later : d.clock ≤ d'.clock
   pub idle : d'.clock ≡ d.clock → d'.sets ≡ d.sets
 
+-- The clock rose by one for each value that went out: from what was shown in between, after some values had come back, and each of these alone has a time
+-- from the clock before on.
+pub record Rose (c : Constraints) (d d' : Domains) : Type 0 where
+  pub between : Domains
+  pub inside : Inside (within c) (shown between)
+  pub spent : d'.clock + total d'.sets ≡ d.clock + total between.sets
+  pub fewer : Inside (shown between) (shown d')
+  pub gone : (i x : ℕ) → shown between i x ≡ true → shown d' i x ≡ false → d.clock ≤ (standing d').time i x
+  pub stayed : (i x : ℕ) → within c i x ≡ true → shown between i x ≡ false → (standing d').time i x < d.clock
+
 -- the arc is a constraint that is in, seen from the end `near`; its rows on that side hold what it lets stand beside
 pub record Facing (c : Constraints) (a : Arc) : Type 0 where
   pub constraint_low : a.constraint < 128

@@ -10,7 +10,7 @@ use Rattle.domains.specs.declared.Domains.{Domains}
 use Rattle.domains.specs.declared.Justification.{Justification}
 use Rattle.domains.specs.Make.{no_justifications}
 use Rattle.domains.specs.Model.{within, is_present, left_of, right_of, arcs_of, shown, standing, total, reason_is}
-use Rattle.domains.specs.Sound.{Went}
+use Rattle.domains.specs.Sound.{Rose, Went}
 use Rattle.domains.specs.Stands.{last_time, with_present}
 
 -- can p go in: it is not in, has two different ends, and there is room and time
@@ -42,6 +42,7 @@ pub record Retracted (c c' : Constraints) (d d' : Domains) (p n : ℕ) : Type 0 
   pub grew : Inside (shown d') (shown d)
   pub kept : (i x : ℕ) → Out (within c) (standing d) i x → (Rests (arcs_of c) (within c) (standing d) (reason_is p) i x → ⊥) → Same (standing d) (standing d') i x
   pub dated : Dated (within c) d.clock (standing d) (standing d')
+  pub rose : Rose c d d'
   pub later : d.clock ≤ d'.clock
   pub soon : d'.clock ≤ d.clock + 2048
   pub count : total d'.sets ≡ total d.sets + n

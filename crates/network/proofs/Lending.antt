@@ -11,7 +11,7 @@ use Rattle.network_law.specs.declared.Answer.{Answer}
 use Rattle.network_law.specs.declared.Answer.TheVariants.{Changed, Refused}
 use Rattle.network_law.specs.declared.Change.{Change}
 use Rattle.network_law.specs.Buffers.{Buffers, Writes, Leaves}
-use Rattle.network_law.specs.Calls.{Call, Rooms}
+use Rattle.network_law.specs.Calls.{Call, Rooms, opens, adds, retracts, asks_domain, asks_shown, asks_justification, asks_wiped}
 use Rattle.network_law.specs.Moment.{Moment}
 use Rattle.network_law.specs.Step.{Turned}
 use Rattle.network_model.specs.declared.State.{State}
@@ -58,14 +58,6 @@ took_lent m s s' b b' k r took err writes =
       performed = record { step = took.step; buffers = leaves_changed _ m _ k r _ b b' took.step.turned err writes };
     }
 
-pub err_both : (w w' : List ℕ) (v v' : List Returning) (r : Result Change Refusal) → OnErr r (w' ≡ w) → OnErr r (v' ≡ v) → OnErr r (buffers w' v' ≡ buffers w v)
-err_both w w' v v' (Ok c) e f = tt
-err_both w w' v v' (Err x) e f = ap (λ z. buffers z v') e ∙ ap (buffers w) f
-
-pub err_part : (w w' : List ℕ) (v v' : List Returning) (k l : ℕ) (r : Result Change Refusal) → OnErr r (w' ≡ take k w) → OnErr r (v' ≡ take l v) → OnErr r (buffers (w' ++ drop k w) (v' ++ drop l v) ≡ buffers w v)
-err_part w w' v v' k l (Ok c) e f = tt
-err_part w w' v v' k l (Err x) e f = err_both w (w' ++ drop k w) v (v' ++ drop l v) (Err x) (same_part k w w' e) (same_part l v v' f)
-
 unwritten : (o : Option Refusal) (k : Call) (b : Buffers) → Writes k b b → Leaves o k b b
 unwritten None k b w = w
 unwritten (Some e) k b w = refl
@@ -75,10 +67,36 @@ pub took_alone : (m : Meaning) (s s' : State) (b : Buffers) (k : Call) (a : Answ
 took_alone m s s' b k a took w =
     record { linked = took.linked; performed = record { step = took.step; buffers = unwritten _ k b w } }
 
--- what holds holds where a result is an error
-pub on_err : {A E : Type 0} {P : Type 0} (r : Result A E) → P → OnErr r P
-on_err (Ok x) p = tt
-on_err (Err e) p = p
+whole : (w : List ℕ) (v : List Returning) (i j : ℕ) → buffers (take i w ++ drop i w) (take j v ++ drop j v) ≡ buffers w v
+whole w v i j = ap (λ z. buffers z (take j v ++ drop j v)) (take-append-drop i w) ∙ ap (buffers w) (take-append-drop j v)
+
+same_parts : (w w' : List ℕ) (v v' : List Returning) (i j : ℕ) → buffers w' v' ≡ buffers (take i w) (take j v) → buffers (w' ++ drop i w) (v' ++ drop j v) ≡ buffers w v
+same_parts w w' v v' i j e =
+    ap (λ b. buffers (b.waiting ++ drop i w) (b.returning ++ drop j v)) e ∙ whole w v i j
+
+-- what is written to parts is written to the buffers
+writes_part : (k : Call) (w w' : List ℕ) (v v' : List Returning) (i j : ℕ) → i ≤ length w → j ≤ length v → Writes k (buffers (take i w) (take j v)) (buffers w' v') → Writes k (buffers w v) (buffers (w' ++ drop i w) (v' ++ drop j v))
+writes_part (opens sizes time) w w' v v' i j f g e = same_parts w w' v v' i j e
+writes_part (adds p rooms) w w' v v' i j f g e = (past_part 128 i w w' f e.0, same_part j v v' e.1)
+writes_part (retracts p rooms) w w' v v' i j f g e = (past_part 128 i w w' f e.0, past_part 2048 j v v' g e.1)
+writes_part (asks_domain n) w w' v v' i j f g e = same_parts w w' v v' i j e
+writes_part (asks_shown n x) w w' v v' i j f g e = same_parts w w' v v' i j e
+writes_part (asks_justification n x) w w' v v' i j f g e = same_parts w w' v v' i j e
+writes_part asks_wiped w w' v v' i j f g e = same_parts w w' v v' i j e
+
+leaves_part : (o : Option Refusal) (k : Call) (w w' : List ℕ) (v v' : List Returning) (i j : ℕ) → i ≤ length w → j ≤ length v → Leaves o k (buffers (take i w) (take j v)) (buffers w' v') → Leaves o k (buffers w v) (buffers (w' ++ drop i w) (v' ++ drop j v))
+leaves_part None k w w' v v' i j f g e = writes_part k w w' v v' i j f g e
+leaves_part (Some c) k w w' v v' i j f g e = same_parts w w' v v' i j e
+
+-- a call that is lent parts of the buffers
+pub part_lent
+    : (m : Meaning) (s s' : State) (k : Call) (a : Answer) (w w' : List ℕ) (v v' : List Returning) (i j : ℕ) → i ≤ length w → j ≤ length v → TookLent m s (buffers (take i w) (take j v)) k a s' (buffers w' v')
+    → TookLent m s (buffers w v) k a s' (buffers (w' ++ drop i w) (v' ++ drop j v))
+part_lent m s s' k a w w' v v' i j f g took =
+    record {
+      linked = took.linked;
+      performed = record { step = took.performed.step; buffers = leaves_part _ k w w' v v' i j f g took.performed.buffers };
+    }
 
 -- the parts are as long as the call is lent
 pub lent_rooms : (w : List ℕ) (v : List Returning) (k l : ℕ) (lent : Lent) → k ≡ min lent.waiting (length w) → l ≡ min lent.returning (length v) → rooms_of (take k w) (take l v) ≡ cut (rooms_of w v) lent

@@ -7,7 +7,7 @@ use Rattle.network_model.specs.Model.{Linked}
 use Rattle.network_model.specs.Performs.{Performs, TookLent}
 use Rattle.network.specs.declared.network.Network.{Network}
 
--- the state stands rightly beside the catalog
+-- the network is linked to its catalog: what it knows of constraints is what the catalog means
 abbrev pub Stands : {C : Type 0} → (C → Meaning) → Network C → Type 0
 Stands meaning n = Linked (meaning n.catalog) n.state
 

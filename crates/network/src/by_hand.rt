@@ -1,6 +1,5 @@
 // Calls made one by one: the pattern for a program that makes its own.
 ghost use Rattle.std.specs.Prelude.{◌≡◌, [], ◌∷◌};
-ghost use Rattle.domains.specs.Stands.{Past};
 ghost use Rattle.network.specs.ByHand.{answers_of};
 ghost use Rattle.network.specs.Served.{Stands};
 ghost use Rattle.network_law.specs.Calls.{adds, asks_domain, opens, retracts};
@@ -27,7 +26,7 @@ pub struct Tried {
 }
 
 // Opens a network on the catalog, adds one constraint, asks for a variable's domain, retracts the constraint and asks again. The calls are made one by one,
-// whether or not one is refused, and what they answer is the law of networks, since the network stands rightly when it is made and after each call.
+// whether or not one is refused, and what they answer is the law of networks, since the network is linked to its catalog when it is made and after each call.
 pub fn try_out<C: Catalog>(
     catalog: C,
     sizes: &[usize],

@@ -84,11 +84,11 @@ impl<C: Catalog> Network<C> {
         ensures past { Past 128 waiting.old waiting.new }
         ensures past_returning { Past 2048 returning.old returning.new }
     {
-        let part = lent.cut(waiting.len(), returning.len());
+        let lent = lent.cut(waiting.len(), returning.len());
         self.retract(
             constraint,
-            &mut waiting[..part.waiting],
-            &mut returning[..part.returning],
+            &mut waiting[..lent.waiting],
+            &mut returning[..lent.returning],
         )
     }
 
@@ -122,7 +122,7 @@ impl<C: Catalog> Network<C> {
         }
     }
 
-    // Performs the calls, one after another, as many as there are entries for their answers. On a network that stands rightly the answers are those of the
+    // Performs the calls, one after another, as many as there are entries for their answers. On a network that is linked to its catalog the answers are those of the
     // law of networks, whatever the calls are, in any order and accepted or not.
     pub fn perform(
         &mut self,

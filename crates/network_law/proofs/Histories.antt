@@ -5,8 +5,8 @@ use Rattle.network_law.specs.declared.Answer.{Answer}
 use Rattle.network_law.specs.Buffers.{Buffers}
 use Rattle.network_law.specs.Moment.{Moment, Right}
 use Rattle.network_law.specs.Calls.{Call}
-use Rattle.network_law.specs.History.{Performed, History}
-use Rattle.network_law.specs.Theorems.{HistoriesJoin, HistoriesPart, HistoriesRight}
+use Rattle.network_law.specs.History.{Performed, History, Steps}
+use Rattle.network_law.specs.Theorems.{HistoriesJoin, HistoriesPart, HistoriesRight, HistoriesAreSteps, StepsJoin}
 
 pub join : HistoriesJoin
 join m s t u b c d [] [] ls bs e h =
@@ -33,3 +33,15 @@ right m s t b c (k ∷ ks) (a ∷ answers) r h = right m h.0 t h.1 c ks answers 
 pub one_more : (m : Meaning) (s t u : Moment) (b c d : Buffers) (ks : List Call) (answers : List Answer) (k : Call) (a : Answer) → History m s b ks answers t c → Performed m t c k a u d → History m s b (ks ++ (k ∷ [])) (answers ++ (a ∷ [])) u d
 one_more m s t u b c d ks answers k a h did =
     join m s t u b c d ks answers (k ∷ []) (a ∷ []) h (u, d, did, (refl, refl))
+
+pub are_steps : HistoriesAreSteps
+are_steps m s t b c [] [] h = h.0
+are_steps m s t b c [] (a ∷ answers) h = absurd h
+are_steps m s t b c (k ∷ ks) [] h = absurd h
+are_steps m s t b c (k ∷ ks) (a ∷ answers) h = (h.0, h.2.step, are_steps m h.0 t h.1 c ks answers h.3)
+
+pub steps_join : StepsJoin
+steps_join m s t u [] [] ls bs e h = subst (λ v. Steps m v ls bs u) e h
+steps_join m s t u [] (a ∷ answers) ls bs e h = absurd e
+steps_join m s t u (k ∷ ks) [] ls bs e h = absurd e
+steps_join m s t u (k ∷ ks) (a ∷ answers) ls bs e h = (e.0, e.1, steps_join m e.0 t u ks answers ls bs e.2 h)

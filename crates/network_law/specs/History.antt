@@ -21,6 +21,13 @@ History m s b (k ∷ calls) [] t c = ⊥
 History m s b (k ∷ calls) (a ∷ answers) t c =
     (u : Moment) × (d : Buffers) × Performed m s b k a u d × History m u d calls answers t c
 
+-- The steps of the calls alone, whatever buffers each of them was lent: from the moment s, with these answers, they lead to the moment t.
+abbrev pub Steps : Meaning → Moment → List Call → List Answer → Moment → Type 0
+Steps m s [] [] t = t ≡ s
+Steps m s [] (a ∷ answers) t = ⊥
+Steps m s (k ∷ calls) [] t = ⊥
+Steps m s (k ∷ calls) (a ∷ answers) t = (u : Moment) × Step m s k a u × Steps m u calls answers t
+
 -- the calls, with these answers, on a network newly made lead to the moment t and the buffers c
 pub record Run (m : Meaning) (b : Buffers) (calls : List Call) (answers : List Answer) (t : Moment) (c : Buffers) : Type 0 where
   pub first : Moment

@@ -1,6 +1,6 @@
 -- One call: its answer, and what stood before and after.
-use Rattle.std.specs.Prelude.{◌≡◌, ℕ, ◌+◌, ◌≤◌, cond, List, length, Some, None, Option, ◌==◌}
-use Rattle.arcs.specs.Family.{within_sizes}
+use Rattle.std.specs.Prelude.{◌≡◌, ℕ, ◌+◌, ◌≤◌, cond, not, ◌&&◌, nat_le, List, length, Some, None, Option, ◌==◌}
+use Rattle.arcs.specs.Family.{Family, within_sizes}
 use Rattle.arcs.specs.WipedOut.{WipedOut}
 use Rattle.bits.specs.Bits.{has_bit}
 use Rattle.catalog.specs.Meaning.{Meaning}
@@ -15,7 +15,7 @@ use Rattle.domains.specs.declared.Justification.{Justification}
 use Rattle.network_law.specs.Moment.{Moment, Agrees, Right, bound, arcs_at}
 use Rattle.network_law.specs.Calls.{Call, opens, adds, retracts, asks_domain, asks_shown, asks_justification, asks_wiped}
 use Rattle.network_law.specs.Refusals.{refusal, next, spent}
-use Rattle.network_law.specs.Counting.{count_less}
+use Rattle.network_law.specs.Counting.{count_less, values_in}
 
 -- the reasons that are the constraint p
 abbrev pub names_only : ℕ → Reasons
@@ -46,11 +46,17 @@ pub record AddAnswer (s t : Moment) (c : Change) : Type 0 where
   pub wiped : WipedAt t c.wiped
   pub clock : t.clock ≡ s.clock + c.values
 
--- The change that a retract answers: as many values as were out before and are shown after; the clock rose by at most 2,048.
+-- the values that are out with a time from t on
+abbrev pub out_since : Moment → ℕ → Family
+out_since s t i x = bound s i x && (not (s.standing.shown i x) && nat_le t (s.standing.time i x))
+
+-- The change that a retract answers: as many values as were out before and are shown after; the clock rose by one for each value that went out again,
+-- which are at most 2,048.
 pub record RetractAnswer (s t : Moment) (c : Change) : Type 0 where
   pub count : c.values ≡ count_less t.standing.shown s.standing.shown
   pub wiped : WipedAt t c.wiped
   pub later : s.clock ≤ t.clock
+  pub clock : t.clock ≡ s.clock + values_in (out_since t s.clock) 32
   pub soon : t.clock ≤ s.clock + 2048
 
 -- an open shows every value and sets the clock

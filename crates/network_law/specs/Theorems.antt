@@ -5,7 +5,7 @@ use Rattle.network_law.specs.declared.Answer.{Answer}
 use Rattle.network_law.specs.Buffers.{Buffers}
 use Rattle.network_law.specs.Moment.{Moment, Right}
 use Rattle.network_law.specs.Calls.{Call}
-use Rattle.network_law.specs.History.{History}
+use Rattle.network_law.specs.History.{History, Steps}
 
 -- one history after another is a history
 abbrev pub HistoriesJoin : Type 0
@@ -18,3 +18,11 @@ HistoriesPart = (m : Meaning) (s u : Moment) (b d : Buffers) (ks : List Call) (a
 -- where everything stands rightly before a history, it does after it; so it does after each of its calls
 abbrev pub HistoriesRight : Type 0
 HistoriesRight = (m : Meaning) (s t : Moment) (b c : Buffers) (ks : List Call) (as₁ : List Answer) → Right m s → History m s b ks as₁ t c → Right m t
+
+-- a history is made of steps
+abbrev pub HistoriesAreSteps : Type 0
+HistoriesAreSteps = (m : Meaning) (s t : Moment) (b c : Buffers) (ks : List Call) (as₁ : List Answer) → History m s b ks as₁ t c → Steps m s ks as₁ t
+
+-- and steps join, also where other buffers are lent from some call on
+abbrev pub StepsJoin : Type 0
+StepsJoin = (m : Meaning) (s t u : Moment) (ks : List Call) (as₁ : List Answer) (ls : List Call) (as₂ : List Answer) → Steps m s ks as₁ t → Steps m t ls as₂ u → Steps m s (ks ++ ls) (as₁ ++ as₂) u

@@ -3,7 +3,7 @@
 
 ghost use Rattle.std.specs.Prelude.{Some};
 ghost use Rattle.network_law.specs.Text.{change_text};
-ghost use Rattle.network_law.specs.Theorems.{HistoriesJoin, HistoriesPart, HistoriesRight};
+ghost use Rattle.network_law.specs.Theorems.{HistoriesAreSteps, HistoriesJoin, HistoriesPart, HistoriesRight, StepsJoin};
 
 use domains::Justification;
 use refusal::Refusal;
@@ -58,4 +58,14 @@ pub fn histories_part()
 // Where everything stands rightly before a history, it does after each of its calls.
 pub fn histories_right()
     ensures { HistoriesRight }
+{}
+
+// A history is made of steps, whatever buffers were lent.
+pub fn histories_are_steps()
+    ensures { HistoriesAreSteps }
+{}
+
+// Steps join, also where other buffers are lent from some call on.
+pub fn steps_join()
+    ensures { StepsJoin }
 {}

@@ -1,10 +1,14 @@
 -- How many values are in one family and not in another inside it.
-use Rattle.std.proofs.Common.{◌≡◌, ℕ, zero, suc, ◌+◌, ◌/◌, ◌%◌, ◌^◌, ◌<◌, Bool, true, false, cond, not, ◌&&◌, eqb, List, [], ◌∷◌, length, get_or, sym, refl, ap, ◌∙◌, ap₂, pow-suc, arith}
+use Rattle.std.proofs.Common.{◌≡◌, ℕ, zero, suc, ◌+◌, ◌/◌, ◌%◌, ◌^◌, ◌<◌, Bool, true, false, cond, not, ◌&&◌, eqb, nat_le, List, [], ◌∷◌, length, get_or, sym, refl, ap, ◌∙◌, ap₂, pow-suc, arith}
+use Rattle.std.proofs.lemmas.Bool.{le-leb, lt-leb}
 use lib.Count.{ones, ones_step}
 use Rattle.arcs.specs.Family.{Family, Inside}
 use Rattle.bits.specs.Bits.{bit_at, has_bit, domains_of}
 use Rattle.bits.proofs.Bitwise.{bit_zero, bit_suc, bit_low}
-use Rattle.domains.specs.Model.{total}
+use Rattle.domains.specs.declared.Constraints.{Constraints}
+use Rattle.domains.specs.declared.Domains.{Domains}
+use Rattle.domains.specs.Model.{shown, standing, total, within}
+use Rattle.domains.specs.Sound.{Rose}
 use Rattle.network_law.specs.Counting.{passing, values_in, less, count_less}
 
 passing_first : (f : ℕ → Bool) (n : ℕ) → passing f (suc n) ≡ cond (f 0) 1 0 + passing (λ x. f (suc x)) n
@@ -75,3 +79,28 @@ count_is_less ds es n ld le wd we inside e =
     let a : values_in (domains_of ds) 32 ≡ total ds = ap (values_in (domains_of ds)) (sym ld) ∙ values_total ds wd in
     let b : values_in (domains_of es) 32 ≡ total es = ap (values_in (domains_of es)) (sym le) ∙ values_total es we in
     omega (arith, a, b, values_less (domains_of ds) (domains_of es) 32 inside)
+
+-- what was shown in between and is not shown after is just what is out with a time from the clock before on
+went_again : (c : Constraints) (d d' : Domains) (r : Rose c d d') (i x : ℕ) → less (shown r.between) (shown d') i x ≡ (within c i x && (not (shown d' i x) && nat_le d.clock ((standing d').time i x)))
+went_again c d d' r i x =
+    case (shown r.between i x) (shown d' i x) (within c i x) (nat_le d.clock ((standing d').time i x)) (r.inside i x)
+    (λ a g. le-leb d.clock ((standing d').time i x) (r.gone i x a g)) (λ w a. lt-leb d.clock ((standing d').time i x) (r.stayed i x w a))
+  where
+    case : (a g w l : Bool) → (a ≡ true → w ≡ true) → (a ≡ true → g ≡ false → l ≡ true) → (w ≡ true → a ≡ false → l ≡ false) → (a && not g) ≡ (w && (not g && l))
+    case false true false l f h k = refl
+    case false true true l f h k = refl
+    case false false false l f h k = refl
+    case false false true l f h k = sym (k refl refl)
+    case true true false l f h k = refl
+    case true true true l f h k = refl
+    case true false w l f h k = sym (ap₂ (λ u v. u && v) (f refl) (h refl refl))
+
+-- so the clock rose by as many
+pub rose_clock : (c : Constraints) (d d' : Domains) → Rose c d d' → d'.clock ≡ d.clock + values_in (λ i x. within c i x && (not (shown d' i x) && nat_le d.clock ((standing d').time i x))) 32
+rose_clock c d d' r =
+    let a : values_in (shown r.between) 32 ≡ total r.between.sets = ap (values_in (shown r.between)) (sym r.between.sets_long) ∙ values_total r.between.sets r.between.wide in
+    let b : values_in (shown d') 32 ≡ total d'.sets = ap (values_in (shown d')) (sym d'.sets_long) ∙ values_total d'.sets d'.wide in
+    let same : values_in (less (shown r.between) (shown d')) 32 ≡ values_in (λ i x. within c i x && (not (shown d' i x) && nat_le d.clock ((standing d').time i x))) 32 =
+    ap (λ f. values_in f 32) (λ k i x. went_again c d d' r i x k)
+    in
+    omega (arith, a, b, same, r.spent, values_less (shown r.between) (shown d') 32 r.fewer)

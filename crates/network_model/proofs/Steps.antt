@@ -1,5 +1,5 @@
 -- Each call is a step of the law.
-use Rattle.std.proofs.Common.{◌≡◌, ℕ, ◌<◌, Bool, true, false, cond, eqb, List, length, get_or, take, Some, None, Option, sym, refl, ap, ◌∙◌, subst, arith}
+use Rattle.std.proofs.Common.{◌≡◌, ℕ, ◌+◌, ◌<◌, Bool, true, false, cond, not, ◌&&◌, eqb, nat_le, List, length, get_or, take, Some, None, Option, sym, refl, ap, ◌∙◌, subst, arith}
 use Rattle.std.proofs.lemmas.List.{length-take-le}
 use Rattle.arcs.specs.Family.{Largest, within_sizes}
 use Rattle.arcs.specs.WipedOut.{WipedOut}
@@ -22,7 +22,8 @@ use Rattle.network_law.specs.Refusals.{refusal, next, spent}
 use Rattle.network_law.specs.Step.{Step, Turned, Answered}
 use Rattle.network_model.specs.Model.{moment, Links}
 use Rattle.network_model.proofs.Alike.{alike_largest, alike_justified, alike_rests}
-use Rattle.network_model.proofs.Counts.{count_is_less}
+use Rattle.network_model.proofs.Counts.{count_is_less, rose_clock}
+use Rattle.network_law.specs.Counting.{values_in}
 use Rattle.network_model.proofs.Link.{alike, same_bound}
 use Rattle.network_model.proofs.Change.{present_set}
 
@@ -134,6 +135,10 @@ module _ (m : Meaning) (lawful : Lawful m) (c c₁ c' : Constraints) (d d' : Dom
                   count = count_is_less d'.sets d.sets k d'.sets_long d.sets_long d'.wide d.wide gone.grew gone.count;
                   wiped = wiped_here m lawful c' d' n known' links' long o wiped;
                   later = gone.later;
+                  clock =
+                      rose_clock c d d' gone.rose
+                      ∙ ap (λ b. d.clock + values_in (λ i x. b i x && (not (shown d' i x) && nat_le d.clock ((standing d').time i x))) 32)
+                      (sym (here m lawful c' d' n known' links' ∙ same_within false (gone.constraints ∙ ap (λ v. with_present v p false) (sym same))));
                   soon = gone.soon;
                 },
               );

@@ -1,4 +1,4 @@
--- What the state of a network means, and when it stands rightly beside a catalog.
+-- What the state of a network means, and when it is linked to a catalog.
 use Rattle.std.specs.Prelude.{◌≡◌, ℕ, ◌<◌, ◌≤◌, Bool, true, false, List, length, take, slice_index, slice_index_or}
 use Rattle.catalog.specs.Meaning.{Meaning, allowed}
 use Rattle.domains.specs.declared.Constraints.{Constraints}
@@ -29,6 +29,6 @@ pub record Links (m : Meaning) (c : Constraints) (n : ℕ) (known : List Bool) :
   pub present : (p : ℕ) → is_present c p ≡ true → slice_index_or known p false ≡ true
   pub means : (p : ℕ) → slice_index_or known p false ≡ true → Known m c p
 
--- the state stands rightly beside a catalog of this meaning
+-- the state is linked to a catalog of this meaning
 abbrev pub Linked : Meaning → State → Type 0
 Linked m s = Links m s.engine.constraints s.variables s.known

@@ -16,12 +16,12 @@ use Rattle.network_law.specs.Step.{Step}
 use Rattle.network_model.specs.declared.State.{State}
 use Rattle.network_model.specs.Model.{Linked, moment_of}
 
--- the call led from one state to the other by a step of the law, and the other stands rightly beside the catalog
+-- the call led from one state to the other by a step of the law, and the other is linked to the catalog
 pub record Took (m : Meaning) (s : State) (k : Call) (a : Answer) (s' : State) : Type 0 where
   pub linked : Linked m s'
   pub step : Step m (moment_of s) k a (moment_of s')
 
--- it does so from every state that stands rightly beside the catalog
+-- it does so from every state that is linked to the catalog
 abbrev pub Performs : Meaning → State → Call → Answer → State → Type 0
 Performs m s k a s' = Linked m s → Took m s k a s'
 

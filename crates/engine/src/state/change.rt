@@ -5,7 +5,7 @@ ghost use Rattle.justify.specs.Changes.{Dated, Released, Same};
 ghost use Rattle.justify.specs.Standing.{Out, Rests};
 ghost use Rattle.queue.specs.Waiting.{Kept};
 ghost use Rattle.domains.specs.Model.{arcs_of, left_of, reason_is, right_of, shown, standing, within};
-ghost use Rattle.domains.specs.Sound.{Went};
+ghost use Rattle.domains.specs.Sound.{Rose, Went};
 ghost use Rattle.domains.specs.Stands.{Past, Stands, last_time, with_present};
 ghost use Rattle.engine.specs.Queued.{Queued};
 
@@ -86,6 +86,7 @@ impl Engine {
         ensures kept { (i x : ℕ) → Out (within self.old.constraints) (standing self.old.domains) i x → (Rests (arcs_of self.old.constraints) (within self.old.constraints) (standing self.old.domains) (reason_is constraint) i x → ⊥) → Same (standing self.old.domains) (standing self.new.domains) i x }
         ensures dated { Dated (within self.old.constraints) self.old.domains.clock (standing self.old.domains) (standing self.new.domains) }
         ensures grew { Inside (shown self.new.domains) (shown self.old.domains) }
+        ensures rose { Rose self.old.constraints self.old.domains self.new.domains }
         ensures later { self.old.domains.clock ≤ self.new.domains.clock }
         ensures soon { self.new.domains.clock ≤ self.old.domains.clock + 2048 }
         ensures past { Past 128 waiting.old waiting.new }

@@ -8,8 +8,8 @@ ghost use Rattle.domains.specs.Stands.{Past};
 ghost use Rattle.engine.specs.Calls.{Added, Retracted, can_add, can_retract};
 ghost use Rattle.network_law.specs.Calls.{adds, retracts};
 ghost use Rattle.network_law.specs.declared.Answer.TheVariants.{Changed};
-ghost use Rattle.network.specs.Served.{Serves, Stands};
-ghost use Rattle.network_model.specs.Performs.{answer_by, rooms_of};
+ghost use Rattle.network.specs.Served.{ServesLent, Stands};
+ghost use Rattle.network_model.specs.Performs.{answer_by, buffers, rooms_of};
 
 use super::Network;
 use super::checks::Lengths;
@@ -69,7 +69,7 @@ impl<C: Catalog> Network<C> {
         returning: &mut [Returning],
     ) -> Result<Change, Refusal>
         ensures catalog { self.new.catalog ≡ self.old.catalog }
-        ensures performs { Serves C.Catalog.meaning self.old (adds constraint (rooms_of waiting.old returning.old)) (answer_by Changed result) self.new }
+        ensures performs { ServesLent C.Catalog.meaning self.old (buffers waiting.old returning.old) (adds constraint (rooms_of waiting.old returning.old)) (answer_by Changed result) self.new (buffers waiting.new returning.new) }
         ensures past { Past 128 waiting.old waiting.new }
         ensures returning { returning.new ≡ returning.old }
         ensures refused { Stands C.Catalog.meaning self.old → OnErr result (self.new.state ≡ self.old.state) }
@@ -92,7 +92,7 @@ impl<C: Catalog> Network<C> {
         returning: &mut [Returning],
     ) -> Result<Change, Refusal>
         ensures catalog { self.new.catalog ≡ self.old.catalog }
-        ensures performs { Serves C.Catalog.meaning self.old (retracts constraint (rooms_of waiting.old returning.old)) (answer_by Changed result) self.new }
+        ensures performs { ServesLent C.Catalog.meaning self.old (buffers waiting.old returning.old) (retracts constraint (rooms_of waiting.old returning.old)) (answer_by Changed result) self.new (buffers waiting.new returning.new) }
         ensures past { Past 128 waiting.old waiting.new }
         ensures past_returning { Past 2048 returning.old returning.new }
         ensures refused { Stands C.Catalog.meaning self.old → OnErr result (self.new.state ≡ self.old.state) }

@@ -1,5 +1,5 @@
 // A network is made, and opened.
-ghost use Rattle.std.specs.Prelude.{◌≡◌, ℕ, ◌<◌, ◌≤◌, None, length, slice_index, OnErr};
+ghost use Rattle.std.specs.Prelude.{◌≡◌, ℕ, ◌<◌, ◌≤◌, None, length, slice_index, IfOk, OnErr};
 ghost use Rattle.std.specs.Result.{result_err};
 ghost use Rattle.network_law.specs.Calls.{opens};
 ghost use Rattle.network_law.specs.Moment.{Blank, Right};
@@ -62,6 +62,7 @@ impl<C: Catalog> Network<C> {
     pub fn open(&mut self, sizes: &[usize], time: u32) -> Result<(), Refusal>
         ensures catalog { self.new.catalog ≡ self.old.catalog }
         ensures performs { Serves C.Catalog.meaning self.old (opens sizes.now time) (answer_by (λ _. Opened) result) self.new }
+        ensures stands { IfOk result (λ _. Stands C.Catalog.meaning self.new) }
         ensures refused { result_err result ≡ sizes_refusal sizes.now }
         ensures unchanged { OnErr result (self.new ≡ self.old) }
     {

@@ -41,8 +41,8 @@ returns-clause-law g c =
           w add.new.waiting gone.new.waiting v add.new.returning gone.new.returning c.args.sizes.now p i
           (answer_by (λ _. Opened) begun.result) (answer_by (λ d. Domain d) under.result) (answer_by (λ d. Domain d) after.result) add.result gone.result
           (ap g.C.Catalog.meaning begun.ensures.catalog) (ap g.C.Catalog.meaning add.ensures.catalog) (ap g.C.Catalog.meaning gone.ensures.catalog)
-          opened added (add.ensures.unlent stands₁) add.ensures.returning add.ensures.past
+          opened added add.ensures.returning add.ensures.past
           (under.ensures stands₂)
-          taken (gone.ensures.unlent stands₂) (gone.ensures.unlent_returning stands₂) gone.ensures.past gone.ensures.past_returning
+          taken
           (after.ensures stands₃));
     }

@@ -22,6 +22,7 @@ returns c =
             grew = c.take_out.ensures.grew;
             kept = c.take_out.ensures.kept;
             dated = c.take_out.ensures.dated;
+            rose = c.take_out.ensures.rose;
             later = c.take_out.ensures.later;
             soon = c.take_out.ensures.soon;
             count = omega (

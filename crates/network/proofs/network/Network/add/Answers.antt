@@ -1,8 +1,10 @@
-use Rattle.std.proofs.Common.{OnErr, Some, refl, ap, ◌∙◌}
+use Rattle.std.proofs.Common.{OnErr, Err, Some, refl, ap, ◌∙◌}
 use Rattle.std.proofs.lemmas.Result.{err_from_is_err_and, MatchResult-weaker}
 use Rattle.std.proofs.lemmas.Bool.{both_ways}
 use Rattle.network_model.specs.Model.{Linked}
+use Rattle.network_model.specs.Performs.{buffers}
 use Rattle.network_model.proofs.Changing.{add_refused, add_took, may_add}
+use Rattle.network.proofs.Lending.{took_lent}
 use Rattle.network.proofs.network.Network.add.Goals as goal
 
 pub returns-in_err-left : goal.returns-in_err-left
@@ -13,8 +15,10 @@ returns-in_err-left g c =
     (record {
       catalog = refl;
       performs = λ linked.
-          add_refused (g.C.Catalog.meaning n.catalog) (g.C.Catalog.lawful n.catalog) n.state c.args.constraint c.args.waiting.now c.args.returning.now linked p.0
-          (ap Some p.2 ∙ c.in_err-left.ensures.refused);
+          took_lent (g.C.Catalog.meaning n.catalog) n.state n.state (buffers c.args.waiting.now c.args.returning.now) (buffers c.args.waiting.now c.args.returning.now) _ (Err p.0)
+          (add_refused (g.C.Catalog.meaning n.catalog) (g.C.Catalog.lawful n.catalog) n.state c.args.constraint c.args.waiting.now c.args.returning.now linked p.0
+          (ap Some p.2 ∙ c.in_err-left.ensures.refused))
+          refl (record { long = refl; rest = refl }, refl);
       past = record { long = refl; rest = refl };
       returning = refl;
       refused = λ linked. refl;
@@ -34,8 +38,10 @@ returns g c =
     record {
       catalog = c.put_in.ensures.catalog ∙ c.know.ensures.catalog;
       performs = λ linked.
-          add_took m lawful n.state c.args.constraint c.args.waiting.now c.args.returning.now linked c.put_in.new.self.state c.know.new.self.state c.put_in.result free
-          (c.know.ensures.learnt linked) c.put_in.ensures.added c.put_in.ensures.wiped c.put_in.ensures.variables c.put_in.ensures.known;
+          took_lent m n.state c.put_in.new.self.state (buffers c.args.waiting.now c.args.returning.now) (buffers c.put_in.new.waiting c.args.returning.now) _ c.put_in.result
+          (add_took m lawful n.state c.args.constraint c.args.waiting.now c.args.returning.now linked c.put_in.new.self.state c.know.new.self.state c.put_in.result free
+          (c.know.ensures.learnt linked) c.put_in.ensures.added c.put_in.ensures.wiped c.put_in.ensures.variables c.put_in.ensures.known)
+          (MatchResult-weaker c.put_in.result (never linked) (λ v did. tt) (λ e no. absurd no)) (c.put_in.ensures.past, refl);
       past = c.put_in.ensures.past;
       returning = refl;
       refused = λ linked. MatchResult-weaker c.put_in.result (never linked) (λ v did. tt) (λ e no. absurd no);

@@ -16,6 +16,7 @@ returns-in_err-check_sizes g c =
       performs = λ linked.
           refused (g.C.Catalog.meaning n.catalog) (g.C.Catalog.lawful n.catalog) n.state linked (opens c.args.sizes.now c.args.time) p.0
           (sym (ap Some p.2 ∙ c.in_err-check_sizes.ensures));
+      stands = tt;
       refused = ap Some p.2 ∙ c.in_err-check_sizes.ensures;
       unchanged = refl;
     })
@@ -26,12 +27,15 @@ returns g c =
     let m = g.C.Catalog.meaning n.catalog in
     let lawful = g.C.Catalog.lawful n.catalog in
     let e = c.open.new.self in
+    let linked =
+    links_open m lawful n.state.engine.constraints e.constraints e.domains c.args.sizes.now c.narrow.result c.args.time (sym c.in_ok-check_sizes.ensures) c.narrow.ensures e.constraints.sizes_long c.open.ensures _ refl
+    in
     record {
       catalog = refl;
-      performs = λ linked.
+      stands = linked;
+      performs = λ _.
           record {
-            linked = links_open m lawful n.state.engine.constraints e.constraints e.domains c.args.sizes.now c.narrow.result c.args.time
-                (sym c.in_ok-check_sizes.ensures) c.narrow.ensures e.constraints.sizes_long c.open.ensures _ refl;
+            linked = linked;
             step = step_open m lawful n.state.engine.constraints e.constraints e.domains c.args.sizes.now c.narrow.result c.args.time
                 (sym c.in_ok-check_sizes.ensures) c.narrow.ensures e.constraints.sizes_long c.open.ensures (moment_of n.state);
           };

@@ -1,8 +1,10 @@
-use Rattle.std.proofs.Common.{OnErr, Some, refl, ap, ◌∙◌}
+use Rattle.std.proofs.Common.{OnErr, Err, Some, refl, ap, ◌∙◌}
 use Rattle.std.proofs.lemmas.Result.{err_from_is_err_and, MatchResult-weaker}
 use Rattle.std.proofs.lemmas.Bool.{both_ways}
 use Rattle.network_model.specs.Model.{Linked}
+use Rattle.network_model.specs.Performs.{buffers}
 use Rattle.network_model.proofs.Changing.{retract_refused, retract_took, may_retract}
+use Rattle.network.proofs.Lending.{took_lent}
 use Rattle.network.proofs.network.Network.retract.Goals as goal
 
 pub returns-in_err-check_retract : goal.returns-in_err-check_retract
@@ -13,8 +15,10 @@ returns-in_err-check_retract g c =
     (record {
       catalog = refl;
       performs = λ linked.
-          retract_refused (g.C.Catalog.meaning n.catalog) (g.C.Catalog.lawful n.catalog) n.state c.args.constraint c.args.waiting.now c.args.returning.now linked p.0
-          (ap Some p.2 ∙ c.in_err-check_retract.ensures);
+          took_lent (g.C.Catalog.meaning n.catalog) n.state n.state (buffers c.args.waiting.now c.args.returning.now) (buffers c.args.waiting.now c.args.returning.now) _ (Err p.0)
+          (retract_refused (g.C.Catalog.meaning n.catalog) (g.C.Catalog.lawful n.catalog) n.state c.args.constraint c.args.waiting.now c.args.returning.now linked p.0
+          (ap Some p.2 ∙ c.in_err-check_retract.ensures))
+          refl (record { long = refl; rest = refl }, record { long = refl; rest = refl });
       past = record { long = refl; rest = refl };
       past_returning = record { long = refl; rest = refl };
       refused = λ linked. refl;
@@ -35,8 +39,10 @@ returns g c =
     record {
       catalog = c.take_out.ensures.catalog;
       performs = λ linked.
-          retract_took m lawful n.state c.args.constraint c.args.waiting.now c.args.returning.now linked c.take_out.new.self.state c.take_out.result free
-          c.take_out.ensures.retracted c.take_out.ensures.wiped c.take_out.ensures.variables c.take_out.ensures.known;
+          took_lent m n.state c.take_out.new.self.state (buffers c.args.waiting.now c.args.returning.now) (buffers c.take_out.new.waiting c.take_out.new.returning) _ c.take_out.result
+          (retract_took m lawful n.state c.args.constraint c.args.waiting.now c.args.returning.now linked c.take_out.new.self.state c.take_out.result free
+          c.take_out.ensures.retracted c.take_out.ensures.wiped c.take_out.ensures.variables c.take_out.ensures.known)
+          (MatchResult-weaker c.take_out.result (never linked) (λ v did. tt) (λ e no. absurd no)) (c.take_out.ensures.past, c.take_out.ensures.past_returning);
       past = c.take_out.ensures.past;
       past_returning = c.take_out.ensures.past_returning;
       refused = λ linked. MatchResult-weaker c.take_out.result (never linked) (λ v did. tt) (λ e no. absurd no);
