@@ -1,5 +1,5 @@
 -- From call to call of a run.
-use Rattle.std.proofs.Common.{◌≡◌, ℕ, zero, suc, ◌+◌, ◌<◌, List, [], ◌∷◌, ◌++◌, map, length, get_or, take, Some, Result, is_err, is_some, count_by, true, vec_items, sym, refl, ap, ◌∙◌, subst, ⊎_elim, add-one, arith}
+use Rattle.std.proofs.Common.{◌≤◌, Vec, Global, vec_len, vec_capacity, ◌≡◌, ℕ, zero, suc, ◌+◌, ◌<◌, List, [], ◌∷◌, ◌++◌, map, length, get_or, take, Some, Result, is_err, is_some, count_by, true, vec_items, sym, refl, ap, ◌∙◌, subst, ⊎_elim, add-one, arith}
 use Rattle.std.proofs.lemmas.List.{length-append, length-map, map_more, map-append}
 use Rattle.catalog.specs.Meaning.{Meaning}
 use Rattle.network_law.specs.declared.Answer.{Answer}
@@ -53,6 +53,13 @@ asked_long (suc n) = let k = length-append (domains_asked n) (asks_domain n ∷ 
 pub one_longer : (os later : List Outcome) (o : Outcome) (i : ℕ) → length os ≡ i → later ≡ os ++ (o ∷ []) → length later ≡ i + 1
 one_longer os later o i e added = ap length added ∙ length-append os (o ∷ []) ∙ ap (λ k. k + 1) e
 
+-- the first i moves were made, and there is room for the outcomes of the others
+pub record Going {C : Type 0} (meaning : C → Meaning) (r : Running C) (moves : List Move) (i : ℕ) (os : Vec Outcome Global) (s : Running C) : Type 0 where
+  pub made : MadeAll meaning r (map move_call (take i moves)) (vec_items os) s
+  pub many : length (vec_items os) ≡ i
+  pub len : vec_len os ≡ i
+  pub room : length moves ≤ vec_capacity os
+
 module _ {C : Type 0} (meaning : C → Meaning) where
   -- one call was a step of the law
   pub led_step : (r r' : Running C) (k : Call) (a : Answer) → Led meaning r (k ∷ []) (a ∷ []) r' → Step (meaning r.network.catalog) (moment_at r) k a (moment_at r')
@@ -103,6 +110,17 @@ module _ {C : Type 0} (meaning : C → Meaning) where
         outcomes = subst O (sym added) (outcomes_more 0 so_far.answers os one.answer o so_far.outcomes (ap (λ k. outcome k one.answer) (let z : 0 + length os ≡ i = omega arith in z) ∙ one.outcome));
         sizes = one.sizes ∙ so_far.sizes;
       }
+
+  -- one turn of the loop over the moves
+  pub going_on : (r s t : Running C) (moves : List Move) (i : ℕ) (d : Move) (os later : Vec Outcome Global) (o : Outcome) → i < length moves
+      → Going meaning r moves i os s → MadeOne meaning s i (get_or moves i d) o t → vec_items later ≡ vec_items os ++ (o ∷ []) → vec_len later ≡ vec_len os + 1 → vec_capacity later ≡ vec_capacity os
+      → Going meaning r moves (i + 1) later t
+  going_on r s t moves i d os later o low so_far one items len capacity = record {
+    made = made_more r s t moves i d (vec_items os) (vec_items later) o low so_far.many so_far.made one items;
+    many = one_longer (vec_items os) (vec_items later) o i so_far.many items;
+    len = omega (arith, len, so_far.len);
+    room = omega (arith, capacity, so_far.room);
+  }
 
   -- no variable yet, and one more
   pub none_asked : (r : Running C) → Stands meaning r.network → Led meaning r (domains_asked 0) (map Domain []) r

@@ -26,7 +26,7 @@ held r = buffers r.waiting r.returning
 abbrev pub sizes_at : {C : Type 0} → Running C → List ℕ
 sizes_at r = (moment_at r).book.sizes
 
--- these calls, with these answers, led from one to the other, where everything stands rightly
+-- these calls, with these answers, led from one to the other by the law of networks, and the network is linked to its catalog still
 pub record Led {C : Type 0} (meaning : C → Meaning) (r : Running C) (calls : List Call) (answers : List Answer) (r' : Running C) : Type 0 where
   pub stands : Stands meaning r'.network
   pub catalog : r'.network.catalog ≡ r.network.catalog

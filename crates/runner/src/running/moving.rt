@@ -29,7 +29,8 @@ impl<C: Catalog> Running<C> {
     {
         let mut outcomes = Vec::with_capacity(heap, moves.len())?;
         for (before, m) in moves.iter().enumerate() {
-            outcomes.push_reserved(self.make(*m, before));
+            let outcome = self.make(*m, before);
+            outcomes.push_reserved(outcome);
         }
         Ok(outcomes)
     }
