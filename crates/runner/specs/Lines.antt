@@ -26,7 +26,7 @@ move_line m (Err f) = move_text m ++ (codes " " ++ fault_text f)
 abbrev pub ended : List ℕ → List ℕ
 ended line = line ++ codes "\n"
 
--- a line for each move, in order
+-- a line for each move and what came of it, in order, as far as both lists go
 abbrev pub moves_text : List Move → List (Result Change RunFault) → List ℕ
 moves_text (m ∷ moves) (o ∷ outcomes) = ended (move_line m o) ++ moves_text moves outcomes
 moves_text (m ∷ moves) [] = []
