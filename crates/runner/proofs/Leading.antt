@@ -160,6 +160,7 @@ module _ {C : Type 0} (meaning : C → Meaning) where
         kept = refl;
         answers = all_made.answers;
         lent = held r;
+        long = (r.wide, r.wide_returning);
         last = moment_at u;
         left = held u;
         run = record { first = moment_at r; blank = blank; right = right; history = subst K asked_is (subst H same all.history) };

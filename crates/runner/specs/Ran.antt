@@ -26,7 +26,9 @@ pub record Ran (m : Meaning) (sizes : List ℕ) (moves : List Move) (report : Re
   pub kept : vec_items report.moves ≡ moves
   -- the answers to the moves
   pub answers : List Answer
+  -- the buffers that each call is lent whole
   pub lent : Buffers
+  pub long : (length lent.waiting ≡ 128) × (length lent.returning ≡ 2048)
   pub last : Moment
   pub left : Buffers
   pub run : Run m lent (calls_for sizes moves) ((Opened ∷ answers) ++ map Domain (vec_items report.domains)) last left
