@@ -10,11 +10,11 @@ use std::alloc::{AllocError, Global};
 
 // The move that a record is, where the check has seen one.
 #[tactic(auto, using(crate::proofs::Places::no_add))]
-fn move_in(record: &[u8; 6]) -> Move
-    ensures { result ≡ move_by_kind record.now }
+fn move_in(bytes: &[u8; 6]) -> Move
+    ensures { result ≡ move_by_kind bytes.now }
 {
-    let index = word(record, 4);
-    match Kind::try_from(word(record, 2)) {
+    let index = word(bytes, 4);
+    match Kind::try_from(word(bytes, 2)) {
         Ok(Kind::Add) => Move::Add(index),
         _ => Move::Retract(index),
     }
