@@ -5,9 +5,9 @@ use Rattle.std.proofs.lemmas.Bool.{cases_eq, both_ways, and_parts, and_from, eqb
 use Rattle.arcs.specs.Family.{Support, Consistent, Inside}
 use Rattle.bits.specs.Bits.{has_bit}
 use Rattle.justify.specs.Standing.{Out, Timed, Rests}
-use Rattle.justify.specs.Changes.{Stays, MoreReasons, ExceptReasons, Same, Released}
+use Rattle.justify.specs.Changes.{Stays, MoreReasons, ExceptReasons, Dated, Same, Released}
 use Rattle.justify.specs.Theorems.{ReleaseKept}
-use Rattle.justify.proofs.Keeps.{more_keeps, release_keeps, same_trans}
+use Rattle.justify.proofs.Keeps.{dated_trans, more_keeps, release_keeps, same_trans}
 use Rattle.domains.specs.declared.TheConstants.{LAST_TIME}
 use Rattle.domains.specs.declared.Constraints.{Constraints}
 use Rattle.domains.specs.declared.Domains.{Domains}
@@ -152,6 +152,11 @@ module _ (c : Constraints) (d d' : Domains) (p : ℕ) (low : p < 128) (stands : 
     pub grew_out : (d'' : Domains) → Stands (with_present c p false) d'' → Inside (shown d'') (shown d)
     grew_out d'' s =
         (stands_largest (with_present c p false) d'' s).contains (shown d) stands.sound.inside consistent_out
+
+    -- what goes out again has a time from the clock on
+    pub dated_out : (d'' : Domains) → Went (with_present c p false) d' d'' → Dated (within c) d.clock (standing d) (standing d'')
+    dated_out d'' went =
+        dated_trans (within c) d.clock d'.clock (standing d) (standing d') (standing d'') (omega (arith, clock)) release_kept.dated went.dated
 
     -- what does not rest on p keeps its justification
     pub kept_out : (d'' : Domains) → Went (with_present c p false) d' d'' → (i x : ℕ) → Out (within c) (standing d) i x → (Rests (arcs_of c) (within c) (standing d) (reason_is p) i x → ⊥) → Same (standing d) (standing d'') i x

@@ -9,7 +9,7 @@ use Rattle.bits.proofs.Coded.{has_low}
 use Rattle.justify.specs.Standing.{Timed}
 use Rattle.justify.specs.Changes.{PutOut}
 use Rattle.justify.specs.Theorems.{OutKept}
-use Rattle.justify.proofs.Keeps.{same_trans, put_out_keeps}
+use Rattle.justify.proofs.Keeps.{same_trans, dated_trans, dated_put_out, put_out_keeps}
 use Rattle.domains.specs.declared.Arc.{Arc}
 use Rattle.domains.specs.declared.Constraints.{Constraints}
 use Rattle.domains.specs.declared.Domains.{Domains}
@@ -29,6 +29,7 @@ went_trans c d d' d'' p q =
       kept = λ i x o.
           same_trans (standing d) (standing d') (standing d'') i x (p.kept i x o)
           (q.kept i x (record { inside = o.inside; gone = (p.kept i x o).shown ∙ o.gone }));
+      dated = dated_trans (within c) d.clock d'.clock (standing d) (standing d') (standing d'') p.later p.dated q.dated;
       spent = q.spent ∙ p.spent;
       later = omega (arith, p.later, q.later);
       idle = λ e. q.idle (omega (arith, e, p.later, q.later)) ∙ p.idle (omega (arith, e, p.later, q.later));
@@ -51,7 +52,7 @@ module _ (c : Constraints) (d d' : Domains) (i x p : ℕ) (sound : Sound c d) (p
       in
       let t : Timed (within c) (standing d') d'.clock = rw clock k.timed in (
         record { inside = λ j y h. sound.inside j y (shown_before j y h); justified = k.justified; timed = t },
-        record { fewer = shown_before; kept = k.kept; spent = omega arith; later = omega arith; idle = λ e. absurd (omega arith) },
+        record { fewer = shown_before; kept = k.kept; dated = dated_put_out (within c) (standing d) (standing d') i x p d.clock put; spent = omega arith; later = omega arith; idle = λ e. absurd (omega arith) },
       )
 
 -- ---- supports by bits

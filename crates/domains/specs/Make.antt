@@ -23,12 +23,16 @@ no_constraints =
       each_row_long = each_long 256 64 0;
     }
 
+-- no value's justification says anything
+abbrev pub no_justifications : List (List Justification)
+no_justifications = replicate 32 (replicate 64 no_justification)
+
 -- no values, at time 0
 abbrev pub no_domains : Domains
 no_domains =
     record {
       sets = replicate 32 0;
-      why = replicate 32 (replicate 64 no_justification);
+      why = no_justifications;
       clock = 0;
       sets_long = length-replicate {A = ℕ} 32 0;
       why_long = length-replicate {A = List Justification} 32 (replicate 64 no_justification);

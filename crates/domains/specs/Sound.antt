@@ -3,7 +3,7 @@ use Rattle.std.specs.Prelude.{◌≡◌, ℕ, ◌+◌, ◌*◌, ◌<◌, ◌≤�
 use Rattle.arcs.specs.Family.{Inside, Support}
 use Rattle.bits.specs.Bits.{has_bit}
 use Rattle.justify.specs.Standing.{Justified, Timed}
-use Rattle.justify.specs.Changes.{KeptOut}
+use Rattle.justify.specs.Changes.{Dated, KeptOut}
 use Rattle.domains.specs.declared.Arc.{Arc}
 use Rattle.domains.specs.declared.Constraints.{Constraints}
 use Rattle.domains.specs.declared.Domains.{Domains}
@@ -27,6 +27,7 @@ pub record Sound (c : Constraints) (d : Domains) : Type 0 where
 pub record Went (c : Constraints) (d d' : Domains) : Type 0 where
   pub fewer : Inside (shown d) (shown d')
   pub kept : KeptOut (within c) (standing d) (standing d')
+  pub dated : Dated (within c) d.clock (standing d) (standing d')
   pub spent : d'.clock + total d'.sets ≡ d.clock + total d.sets
   pub later : d.clock ≤ d'.clock
   pub idle : d'.clock ≡ d.clock → d'.sets ≡ d.sets

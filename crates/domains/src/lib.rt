@@ -5,7 +5,7 @@ ghost use Rattle.std.specs.Prelude.{◌≡◌, ℕ, ◌^◌, ◌<◌, length, []
 
 mod make;
 
-pub use make::{capped, full, no_constraints, no_domains};
+pub use make::{capped, full, no_constraints, no_domains, no_justifications};
 
 // The last time at which a constraint may go in or out (`last_time` of the definitions): at most 2,048 values go out then.
 pub const LAST_TIME: u32 = 4_294_965_247;

@@ -1,7 +1,7 @@
 // Data to begin with.
-ghost use Rattle.std.specs.Prelude.{◌≡◌, ℕ, ◌^◌, ◌<◌, min, ◌&&◌, nat_lt, length, replicate, if◌then◌else◌, slice_index};
+ghost use Rattle.std.specs.Prelude.{◌≡◌, ℕ, ◌^◌, ◌<◌, min, ◌&&◌, nat_lt, length, [], if◌then◌else◌, slice_index, slice_index_or};
 ghost use Rattle.bits.specs.Bits.{domains_of, has_bit};
-ghost use Rattle.domains.specs.Make.{no_constraints, no_domains};
+ghost use Rattle.domains.specs.Make.{no_constraints, no_domains, no_justifications};
 
 use crate::{Constraints, Domains, Ends, Justification};
 use std::array;
@@ -18,13 +18,22 @@ pub fn no_constraints() -> Constraints
     }
 }
 
+// Justifications that say nothing.
+pub fn no_justifications() -> [[Justification; 64]; 32]
+    ensures filled { result ≡ no_justifications }
+    ensures long { length result ≡ 32 }
+    ensures each_long { (i : ℕ) → i < 32 → length (slice_index_or result i []) ≡ 64 }
+{
+    [[Justification::default(); 64]; 32]
+}
+
 // No values, at time 0.
 pub fn no_domains() -> Domains
     ensures { result ≡ no_domains }
 {
     Domains {
         sets: [0; 32],
-        why: [[Justification::default(); 64]; 32],
+        why: no_justifications(),
         clock: 0,
     }
 }

@@ -9,6 +9,7 @@ use Rattle.bits.proofs.Bitwise.{bit_of_zero, some_bit}
 use Rattle.domains.specs.declared.Constraints.{Constraints}
 use Rattle.domains.specs.declared.Domains.{Domains}
 use Rattle.domains.specs.declared.Ends.{Ends}
+use Rattle.domains.specs.Make.{no_justifications}
 use Rattle.domains.specs.Model.{arcs_of, is_present, shown, total}
 use Rattle.domains.specs.Sound.{Shape, Sound}
 use Rattle.domains.specs.Stands.{Stands}
@@ -36,7 +37,7 @@ more_shown c c' d d' s s' grew =
     total_inside d.sets d'.sets (d.sets_long ∙ sym d'.sets_long) d.wide d'.wide grew
 
 -- an opening
-module _ (c : Constraints) (d d' : Domains) (given sizes : List ℕ) (stands : Stands c d) (long : length sizes ≡ 32) (capped : (i : ℕ) → get_or sizes i 0 ≡ cond (ltb i 32) (min 64 (get_or given i 0)) 0) (full : (i x : ℕ) → i < 32 → shown d' i x ≡ (ltb x (get_or sizes i 0) && ltb x 64)) (c' : Constraints) (same : reopened c sizes long ≡ c') where
+module _ (c : Constraints) (d d' : Domains) (given sizes : List ℕ) (stands : Stands c d) (long : length sizes ≡ 32) (capped : (i : ℕ) → get_or sizes i 0 ≡ cond (ltb i 32) (min 64 (get_or given i 0)) 0) (full : (i x : ℕ) → i < 32 → shown d' i x ≡ (ltb x (get_or sizes i 0) && ltb x 64)) (c' : Constraints) (same : reopened c sizes long ≡ c') (filled : d'.why ≡ no_justifications) where
   pub afresh_stands : Stands c' d'
   afresh_stands = subst (λ k. Stands k d') same (stands_open c d d' sizes stands long (sizes_small sizes given capped) full)
 
@@ -49,6 +50,7 @@ module _ (c : Constraints) (d d' : Domains) (given sizes : List ℕ) (stands : S
         ends = refl;
         rows = refl;
         all = all_shown c d d' sizes stands long (sizes_small sizes given capped) full;
+        why = filled;
         clock = refl;
         stands = right_now (reopened c sizes long) d' (stands_open c d d' sizes stands long (sizes_small sizes given capped) full);
       })

@@ -2,12 +2,13 @@
 use Rattle.std.specs.Prelude.{◌≡◌, ℕ, ◌+◌, ◌<◌, ◌≤◌, min, Bool, true, false, cond, not, ◌&&◌, ◌||◌, List, Some, None, Option, ◌==◌, nat_lt, slice_index}
 use Rattle.arcs.specs.Family.{Inside, Largest}
 use Rattle.justify.specs.Standing.{Out, Justified, Timed, Rests}
-use Rattle.justify.specs.Changes.{Same}
+use Rattle.justify.specs.Changes.{Dated, Same}
 use Rattle.engine.specs.declared.fault.LoadFault.{LoadFault}
 use Rattle.engine.specs.declared.fault.LoadFault.TheVariants.{NoSuchConstraint, AlreadyIn, EndOutside, SameEnds}
 use Rattle.domains.specs.declared.Constraints.{Constraints}
 use Rattle.domains.specs.declared.Domains.{Domains}
 use Rattle.domains.specs.declared.Justification.{Justification}
+use Rattle.domains.specs.Make.{no_justifications}
 use Rattle.domains.specs.Model.{within, is_present, left_of, right_of, arcs_of, shown, standing, total, reason_is}
 use Rattle.domains.specs.Sound.{Went}
 use Rattle.domains.specs.Stands.{last_time, with_present}
@@ -26,19 +27,21 @@ pub record Right (c : Constraints) (d : Domains) : Type 0 where
   pub justified : Justified (arcs_of c) (within c) (standing d)
   pub timed : Timed (within c) (standing d) d.clock
 
--- p went in, and n values out; what was out before keeps its justification
+-- p went in, and n values out, each at its own time from the clock on; what was out before keeps its justification
 pub record Added (c c' : Constraints) (d d' : Domains) (p n : ℕ) : Type 0 where
   pub constraints : c' ≡ with_present c p true
   pub right : Right c' d'
   pub went : Went c' d d'
   pub count : d'.clock ≡ d.clock + n
 
--- p went out, and n values came back; what was out before, and does not rest on p, keeps its justification
+-- p went out, and n values came back; what was out before, and does not rest on p, keeps its justification; what went out again has a time from the
+-- clock on
 pub record Retracted (c c' : Constraints) (d d' : Domains) (p n : ℕ) : Type 0 where
   pub constraints : c' ≡ with_present c p false
   pub right : Right c' d'
   pub grew : Inside (shown d') (shown d)
   pub kept : (i x : ℕ) → Out (within c) (standing d) i x → (Rests (arcs_of c) (within c) (standing d) (reason_is p) i x → ⊥) → Same (standing d) (standing d') i x
+  pub dated : Dated (within c) d.clock (standing d) (standing d')
   pub later : d.clock ≤ d'.clock
   pub soon : d'.clock ≤ d.clock + 2048
   pub count : total d'.sets ≡ total d.sets + n
@@ -55,13 +58,15 @@ load_fault c p left right =
     (cond (not (nat_lt left 32) || not (nat_lt right 32)) (Some EndOutside)
     (cond (left == right) (Some SameEnds) None)))
 
--- none is in, every value below the sizes is shown, and the clock is set; sizes past 32 are left out, and none is above 64
+-- none is in, every value below the sizes is shown, no justification of before stands, and the clock is set; sizes past 32 are left out, and none is
+-- above 64
 pub record Opened (c c' : Constraints) (d' : Domains) (given : List ℕ) (time : ℕ) : Type 0 where
   pub sizes : (i : ℕ) → slice_index c'.sizes i ≡ cond (nat_lt i 32) (min 64 (slice_index given i)) 0
   pub none : (p : ℕ) → is_present c' p ≡ false
   pub ends : c'.ends ≡ c.ends
   pub rows : c'.rows ≡ c.rows
   pub all : (i x : ℕ) → shown d' i x ≡ within c' i x
+  pub why : d'.why ≡ no_justifications
   pub clock : d'.clock ≡ time
   pub stands : Right c' d'
 

@@ -1,10 +1,10 @@
 -- What keeps everything justified.
-use Rattle.std.proofs.Common.{◌≡◌, ℕ, ◌+◌, ◌<◌, true, false, ◌⊎◌, sym, refl, ap, ◌∙◌, inl, inr, ⊎_elim, arith}
+use Rattle.std.proofs.Common.{◌≡◌, ℕ, ◌+◌, ◌<◌, ◌≤◌, true, false, ◌⊎◌, sym, refl, ap, ◌∙◌, inl, inr, ⊎_elim, arith}
 use Rattle.std.proofs.lemmas.Bool.{cases_Bool, cases_eq, both_ways}
 use Rattle.arcs.specs.Arcs.{Arcs}
 use Rattle.arcs.specs.Family.{Family, Support}
 use Rattle.justify.specs.Standing.{Standing, Out, Accounts, Justified, Reasons, Rests, names, through, Timed}
-use Rattle.justify.specs.Changes.{Stays, ExceptReasons, Same, PutOut, Released}
+use Rattle.justify.specs.Changes.{Stays, ExceptReasons, Same, Dated, PutOut, Released}
 use Rattle.justify.specs.Theorems.{MoreKeeps, PutOutKeeps, ReleaseKeeps}
 
 pub stays_refl : (a : Arcs) (i r : ℕ) → a.on i r ≡ true → Stays a a i r
@@ -40,6 +40,12 @@ reread a b s s' s'' i x e acc = rw (e.reason, e.time) acc
 pub out_same : (b : Family) (s s' : Standing) (i x : ℕ) → Same s s' i x → Out b s' i x → Out b s i x
 out_same b s s' i x e o = record { inside = o.inside; gone = sym e.shown ∙ o.gone }
 
+pub dated_trans : (b : Family) (t t' : ℕ) (s s' s'' : Standing) → t ≤ t' → Dated b t s s' → Dated b t' s' s'' → Dated b t s s''
+dated_trans b t t' s s' s'' later p q i x o old =
+    let second = q i x o (omega (arith, old, later)) in
+    let first = p i x second.0 (omega (arith, old, second.1.time)) in
+    (first.0, same_trans s s' s'' i x first.1 second.1)
+
 pub more_keeps : MoreKeeps
 more_keeps a a' b s more j i x out =
     moved a a' b s s i x (s.reason i x) (s.time i x) (more i (s.reason i x) (j i x out).on) (j i x out) (λ y _ _. same_refl s (a.far i (s.reason i x)) y)
@@ -50,6 +56,13 @@ more_keeps a a' b s more j i x out =
 this : (i x j y : ℕ) → ((i ≡ j) × (x ≡ y)) ⊎ ((i ≡ j) × (x ≡ y) → ⊥)
 this i x j y =
     ⊎_elim (λ e. ⊎_elim (λ f. inl (e, f)) (λ ne. inr (λ p. ne p.1)) (cases_eq x y)) (λ ne. inr (λ p. ne p.0)) (cases_eq i j)
+
+pub dated_put_out : (b : Family) (s s' : Standing) (i x r t : ℕ) → PutOut s s' i x r t → Dated b t s s'
+dated_put_out b s s' i x r t put j y o old =
+    ⊎_elim
+    (λ e. absurd (let k : s'.time j y ≡ t = ap (λ n. s'.time n y) (sym e.0) ∙ ap (s'.time i) (sym e.1) ∙ put.time in omega (arith, old, k)))
+    (λ ne. (out_same b s s' j y (put.others j y ne) o, put.others j y ne))
+    (this i x j y)
 
 module _ (a : Arcs) (b : Family) (s s' : Standing) (i x r clock : ℕ) (timed : Timed b s clock) (put : PutOut s s' i x r clock) where
   -- what was out is another value
@@ -162,10 +175,15 @@ module _ (a a' : Arcs) (b : Family) (p : Reasons) (s s' : Standing) (clock : ℕ
   left_kept : (i x : ℕ) → Out b s i x → (Rests a b s p i x → ⊥) → Same s s' i x
   left_kept i x o h = ⊎_elim (λ t. absurd (h (rel.only i x o t))) (λ t. rel.kept i x o t) (cases_Bool (s'.shown i x))
 
+  -- nothing that is out is new
+  left_dated : Dated b clock s s'
+  left_dated i x o old = (still_out i x o, still_same i x o)
+
 pub release_keeps : ReleaseKeeps
 release_keeps a a' b p s s' clock timed except rel just =
     record {
       justified = left_justified a a' b p s s' clock rel except just;
       timed = left_timed a a' b p s s' clock rel timed;
       kept = left_kept a a' b p s s' clock rel;
+      dated = left_dated a a' b p s s' clock rel;
     }

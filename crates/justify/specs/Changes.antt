@@ -1,5 +1,5 @@
 -- How the reasons and the standing of the values change.
-use Rattle.std.specs.Prelude.{◌≡◌, ℕ, true, false}
+use Rattle.std.specs.Prelude.{◌≡◌, ℕ, ◌<◌, true, false}
 use Rattle.arcs.specs.Arcs.{Arcs}
 use Rattle.arcs.specs.Family.{Family}
 use Rattle.justify.specs.Standing.{Standing, Out, Reasons, Rests}
@@ -40,6 +40,10 @@ pub record PutBack (s s' : Standing) (i x : ℕ) : Type 0 where
 -- values may have gone out; what was out keeps its justification
 abbrev pub KeptOut : Family → Standing → Standing → Type 0
 KeptOut b s s' = (i x : ℕ) → Out b s i x → Same s s' i x
+
+-- What went out took a time from t on: a value that is out in s' with an earlier time was out in s, with the same justification.
+abbrev pub Dated : Family → ℕ → Standing → Standing → Type 0
+Dated b t s s' = (i x : ℕ) → Out b s' i x → s'.time i x < t → Out b s i x × Same s s' i x
 
 -- Exactly the values whose justification rests on p are back; what is still out keeps its justification.
 pub record Released (a : Arcs) (b : Family) (p : Reasons) (s s' : Standing) : Type 0 where

@@ -3,7 +3,7 @@ use Rattle.std.specs.Prelude.{◌≡◌, ℕ, ◌+◌, true, false}
 use Rattle.arcs.specs.Arcs.{Arcs}
 use Rattle.arcs.specs.Family.{Family, Inside, Support, Consistent, Largest}
 use Rattle.justify.specs.Standing.{Standing, Out, Justified, Reasons, Rests, Timed}
-use Rattle.justify.specs.Changes.{MoreReasons, ExceptReasons, Same, PutOut, KeptOut, Released}
+use Rattle.justify.specs.Changes.{MoreReasons, ExceptReasons, Dated, Same, PutOut, KeptOut, Released}
 
 -- no consistent family inside the bound contains a value that is out with everything justified
 abbrev pub OutOfEvery : Type 0
@@ -33,6 +33,7 @@ pub record ReleaseKept (a a' : Arcs) (b : Family) (p : Reasons) (s s' : Standing
   pub justified : Justified a' b s'
   pub timed : Timed b s' clock
   pub kept : (i x : ℕ) → Out b s i x → (Rests a b s p i x → ⊥) → Same s s' i x
+  pub dated : Dated b clock s s'
 
 abbrev pub ReleaseKeeps : Type 0
 ReleaseKeeps = (a a' : Arcs) (b : Family) (p : Reasons) (s s' : Standing) (clock : ℕ) → Timed b s clock → ExceptReasons p a a' → Released a b p s s' → Justified a b s → ReleaseKept a a' b p s s' clock

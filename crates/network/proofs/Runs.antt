@@ -1,42 +1,70 @@
--- One call more of a run.
-use Rattle.std.proofs.Common.{◌≡◌, ℕ, ◌+◌, ◌<◌, List, [], ◌∷◌, ◌++◌, length, get_or, take, sym, ◌∙◌, subst}
-use Rattle.std.proofs.lemmas.List.{map_more}
+-- One call more of a list.
+use Rattle.std.proofs.Common.{◌≡◌, ℕ, ◌+◌, ◌-◌, ◌<◌, ◌≤◌, min, List, [], ◌∷◌, ◌++◌, length, get_or, set, take, drop, sym, ap, ◌∙◌, subst, ⊎_elim, arith}
+use Rattle.std.proofs.lemmas.Bool.{cases_lt}
+use Rattle.std.proofs.lemmas.List.{map_more, take_more_set, take_all, drop-drop, length-set, drop-set-lt}
 use Rattle.catalog.specs.Meaning.{Meaning}
 use Rattle.domains.specs.declared.Returning.{Returning}
 use Rattle.domains.specs.Stands.{Past}
 use Rattle.network_law.specs.declared.Answer.{Answer}
+use Rattle.network_law.specs.Buffers.{Buffers}
 use Rattle.network_law.specs.Calls.{Rooms}
 use Rattle.network_law.specs.Calls.{Call as Asked}
 use Rattle.network_law.specs.Moment.{Moment}
-use Rattle.network_law.specs.History.{History}
+use Rattle.network_law.specs.History.{Performed, History}
 use Rattle.network_law.proofs.Histories.{one_more}
 use Rattle.network_model.specs.declared.State.{State}
 use Rattle.network_model.specs.Model.{moment_of}
-use Rattle.network_model.specs.Performs.{Took, rooms_of}
-use Rattle.network.specs.declared.calls.Call.{Call}
+use Rattle.network_model.specs.Performs.{TookLent, rooms_of}
 use Rattle.network.specs.Requests.{call_of, calls_of}
+use Rattle.network.specs.declared.calls.Call.{Call}
 
 pub past_trans : {T : Type 0} (n : ℕ) (a b c : List T) → Past n a b → Past n b c → Past n a c
 past_trans n a b c p q = record { long = q.long ∙ p.long; rest = q.rest ∙ p.rest }
 
--- rooms that are as long as they were
+pub past_more : {T : Type 0} (n m : ℕ) (a b : List T) → n ≤ m → Past n a b → Past m a b
+past_more {T} n m a b h p =
+    let split : (xs : List T) → drop m xs ≡ drop (m - n) (drop n xs) =
+    λ xs. ap (λ k. drop k xs) (let e : m ≡ n + (m - n) = omega (arith, h) in e) ∙ sym (drop-drop (m - n) n xs)
+    in
+    record { long = p.long; rest = split b ∙ ap (drop (m - n)) p.rest ∙ sym (split a) }
+
+-- one entry more is written
+pub past_set : {T : Type 0} (i : ℕ) (a b : List T) (x : T) → Past i a b → Past (i + 1) a (set b i x)
+past_set i a b x p =
+    let more = past_more i (i + 1) a b (omega arith) p in
+    record { long = length-set b i x ∙ p.long; rest = drop-set-lt (i + 1) b i x (omega arith) ∙ more.rest }
+
+-- the first so many, where there may be fewer
+pub take_there : {T : Type 0} (n m : ℕ) (xs : List T) → n ≡ min (length xs) m → take n xs ≡ take m xs
+take_there n m xs e =
+    ⊎_elim
+    (λ l. ap (λ k. take k xs) (let f : n ≡ m = omega (arith, e, l) in f))
+    (λ g. take_all n xs (omega (arith, e, g)) ∙ sym (take_all m xs (omega (arith, g))))
+    (cases_lt m (length xs))
+
+-- buffers that are as long as they were
 pub same_rooms : (w w' : List ℕ) (r r' : List Returning) → Past 128 w w' → Past 2048 r r' → rooms_of w' r' ≡ rooms_of w r
 same_rooms w w' r r' p q k = record { waiting = p.long k; returning = q.long k }
 
+-- one call more at the end
+pub lent_more
+    : (m m' : Meaning) (first : Moment) (b c d : Buffers) (ks : List Asked) (answers : List Answer) (k : Asked) (a : Answer) (s s' : State) → m' ≡ m
+    → History m first b ks answers (moment_of s) c → TookLent m' s c k a s' d → History m first b (ks ++ (k ∷ [])) (answers ++ (a ∷ [])) (moment_of s') d
+lent_more m m' first b c d ks answers k a s s' same history took =
+    one_more m first (moment_of s) (moment_of s') b c d ks answers k a history (subst (λ v. Performed v (moment_of s) c k a (moment_of s') d) same took.performed)
+
 pub call_more
-    : (m m' : Meaning) (first : Moment) (calls : List Call) (i : ℕ) (default : Call) (rooms rooms' : Rooms) (answers answers' : List Answer) (a : Answer) (s s' : State)
-    → i < length calls → rooms' ≡ rooms → m' ≡ m → answers' ≡ answers ++ (a ∷ [])
-    → History m first (calls_of rooms (take i calls)) answers (moment_of s) → Took m' s (call_of rooms' (get_or calls i default)) a s'
-    → History m first (calls_of rooms (take (i + 1) calls)) answers' (moment_of s')
-call_more m m' first calls i default rooms rooms' answers answers' a s s' low lent same grown history took =
+    : (m m' : Meaning) (first : Moment) (b c d : Buffers) (calls : List Call) (i : ℕ) (default : Call) (rooms rooms' : Rooms) (answers : List Answer) (a : Answer) (s s' : State)
+    → i < length calls → i < length answers → rooms' ≡ rooms → m' ≡ m
+    → History m first b (calls_of rooms (take i calls)) (take i answers) (moment_of s) c → TookLent m' s c (call_of rooms' (get_or calls i default)) a s' d
+    → History m first b (calls_of rooms (take (i + 1) calls)) (take (i + 1) (set answers i a)) (moment_of s') d
+call_more m m' first b c d calls i default rooms rooms' answers a s s' low there lent same history did =
     let call : Call = get_or calls i default in
-    let T : Meaning → Type 0 = λ v. Took v s (call_of rooms' call) a s' in
-    let U : Rooms → Type 0 = λ v. Took m s (call_of v call) a s' in
-    let step : Took m s (call_of rooms call) a s' = subst U lent (subst T same took) in
+    let U : Rooms → Type 0 = λ v. TookLent m' s c (call_of v call) a s' d in
     let more : calls_of rooms (take (i + 1) calls) ≡ calls_of rooms (take i calls) ++ (call_of rooms call ∷ []) =
     map_more (call_of rooms) calls i default low
     in
-    let H : List Asked → Type 0 = λ v. History m first v (answers ++ (a ∷ [])) (moment_of s') in
-    let K : List Answer → Type 0 = λ v. History m first (calls_of rooms (take (i + 1) calls)) v (moment_of s') in
-    subst K (sym grown)
-    (subst H (sym more) (one_more m first (moment_of s) (moment_of s') (calls_of rooms (take i calls)) answers (call_of rooms call) a history step.step))
+    let H : List Asked → Type 0 = λ v. History m first b v (take i answers ++ (a ∷ [])) (moment_of s') d in
+    let K : List Answer → Type 0 = λ v. History m first b (calls_of rooms (take (i + 1) calls)) v (moment_of s') d in
+    subst K (sym (take_more_set answers i a there))
+    (subst H (sym more) (lent_more m m' first b c d (calls_of rooms (take i calls)) (take i answers) (call_of rooms call) a s s' same history (subst U lent did)))

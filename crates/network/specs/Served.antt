@@ -1,9 +1,10 @@
 -- What a call on a network does, by the meaning of the network's catalog.
 use Rattle.catalog.specs.Meaning.{Meaning}
 use Rattle.network_law.specs.declared.Answer.{Answer}
+use Rattle.network_law.specs.Buffers.{Buffers}
 use Rattle.network_law.specs.Calls.{Call}
 use Rattle.network_model.specs.Model.{Linked}
-use Rattle.network_model.specs.Performs.{Performs}
+use Rattle.network_model.specs.Performs.{Performs, TookLent}
 use Rattle.network.specs.declared.network.Network.{Network}
 
 -- the state stands rightly beside the catalog
@@ -13,3 +14,7 @@ Stands meaning n = Linked (meaning n.catalog) n.state
 -- the call led from one network to the other by a step of the law, with this answer
 abbrev pub Serves : {C : Type 0} → (C → Meaning) → Network C → Call → Answer → Network C → Type 0
 Serves meaning n k a n' = Performs (meaning n.catalog) n.state k a n'.state
+
+-- the same, with what the lent buffers held before the call and after it
+abbrev pub ServesLent : {C : Type 0} → (C → Meaning) → Network C → Buffers → Call → Answer → Network C → Buffers → Type 0
+ServesLent meaning n b k a n' b' = Stands meaning n → TookLent (meaning n.catalog) n.state b k a n'.state b'

@@ -1,25 +1,47 @@
-// Any list of calls, performed on a network newly made.
-ghost use Rattle.std.specs.Prelude.{◌≡◌, IfOk};
+// Any list of calls, performed on a network.
+ghost use Rattle.std.specs.Prelude.{◌≡◌, length, min, take};
 ghost use Rattle.domains.specs.Stands.{Past};
-ghost use Rattle.network.specs.Requests.{call_of, calls_of};
-ghost use Rattle.network.specs.Served.{Serves};
-ghost use Rattle.network_law.specs.History.{Run};
-ghost use Rattle.network_model.specs.Performs.{rooms_of};
+ghost use Rattle.network.specs.Requests.{call_of, calls_of, cut};
+ghost use Rattle.network.specs.Served.{ServesLent, Stands};
+ghost use Rattle.network_law.specs.Calls.{adds, retracts};
+ghost use Rattle.network_law.specs.History.{History, Run};
+ghost use Rattle.network_model.specs.Model.{moment_of};
+ghost use Rattle.network_model.specs.Performs.{answer_by, buffers, rooms_of};
+ghost use Rattle.network_law.specs.declared.Answer.TheVariants.{Changed};
 
 use crate::network::Network;
 use catalog::Catalog;
 use domains::Returning;
-use network_law::Answer;
-use std::alloc::{AllocError, Global};
+use network_law::{Answer, Change};
+use refusal::Refusal;
+
+// How many entries of the two buffers a call is lent: for constraints that wait, and for values that come back. Of a shorter buffer it gets all.
+#[derive(Clone, Copy, PartialEq, Eq, Debug)]
+pub struct Lent {
+    pub waiting: usize,
+    pub returning: usize,
+}
+
+impl Lent {
+    // As many entries as buffers of these lengths have.
+    fn cut(self, waiting: usize, returning: usize) -> Lent
+        ensures waiting { result.waiting ≡ min self.waiting waiting }
+        ensures returning { result.returning ≡ min self.returning returning }
+    {
+        Lent {
+            waiting: self.waiting.min(waiting),
+            returning: self.returning.min(returning),
+        }
+    }
+}
 
 // A call on a network.
 #[derive(Clone, Copy)]
 pub enum Call<'a> {
     // the sizes, and the first time
     Open { sizes: &'a [usize], time: u32 },
-    // a constraint
-    Add(usize),
-    Retract(usize),
+    Add { constraint: usize, lent: Lent },
+    Retract { constraint: usize, lent: Lent },
     // a variable
     Domain(usize),
     Shown { variable: usize, value: usize },
@@ -27,60 +49,120 @@ pub enum Call<'a> {
     WipedOut,
 }
 
-// One call on a network, with its answer.
-fn answer<C: Catalog>(
-    network: &mut Network<C>,
-    call: Call<'_>,
-    waiting: &mut [u8],
-    returning: &mut [Returning],
-) -> Answer
-    ensures catalog { network.new.catalog ≡ network.old.catalog }
-    ensures performs { Serves C.Catalog.meaning network.old (call_of (rooms_of waiting.old returning.old) call.entry) result network.new }
-    ensures past { Past 128 waiting.old waiting.new }
-    ensures past_returning { Past 2048 returning.old returning.new }
-{
-    match call {
-        Call::Open { sizes, time } => network
-            .open(sizes, time)
-            .map_or_else(Answer::Refused, |()| Answer::Opened),
-        Call::Add(constraint) => network
-            .add(constraint, waiting, returning)
-            .map_or_else(Answer::Refused, Answer::Changed),
-        Call::Retract(constraint) => network
-            .retract(constraint, waiting, returning)
-            .map_or_else(Answer::Refused, Answer::Changed),
-        Call::Domain(variable) => network
-            .domain(variable)
-            .map_or_else(Answer::Refused, Answer::Domain),
-        Call::Shown { variable, value } => network
-            .is_shown(variable, value)
-            .map_or_else(Answer::Refused, Answer::Shown),
-        Call::Justification { variable, value } => network
-            .justification(variable, value)
-            .map_or_else(Answer::Refused, Answer::Justified),
-        Call::WipedOut => Answer::Wiped(network.wiped_out()),
+impl<C: Catalog> Network<C> {
+    // Adds the constraint with so much of the buffers.
+    fn add_lent(
+        &mut self,
+        constraint: usize,
+        lent: Lent,
+        waiting: &mut [u8],
+        returning: &mut [Returning],
+    ) -> Result<Change, Refusal>
+        ensures catalog { self.new.catalog ≡ self.old.catalog }
+        ensures performs { ServesLent C.Catalog.meaning self.old (buffers waiting.old returning.old) (adds constraint (cut (rooms_of waiting.old returning.old) lent)) (answer_by Changed result) self.new (buffers waiting.new returning.new) }
+        ensures past { Past 128 waiting.old waiting.new }
+        ensures past_returning { returning.new ≡ returning.old }
+    {
+        let part = lent.cut(waiting.len(), returning.len());
+        self.add(
+            constraint,
+            &mut waiting[..part.waiting],
+            &mut returning[..part.returning],
+        )
+    }
+
+    // Retracts the constraint with so much of the buffers.
+    fn retract_lent(
+        &mut self,
+        constraint: usize,
+        lent: Lent,
+        waiting: &mut [u8],
+        returning: &mut [Returning],
+    ) -> Result<Change, Refusal>
+        ensures catalog { self.new.catalog ≡ self.old.catalog }
+        ensures performs { ServesLent C.Catalog.meaning self.old (buffers waiting.old returning.old) (retracts constraint (cut (rooms_of waiting.old returning.old) lent)) (answer_by Changed result) self.new (buffers waiting.new returning.new) }
+        ensures past { Past 128 waiting.old waiting.new }
+        ensures past_returning { Past 2048 returning.old returning.new }
+    {
+        let part = lent.cut(waiting.len(), returning.len());
+        self.retract(
+            constraint,
+            &mut waiting[..part.waiting],
+            &mut returning[..part.returning],
+        )
+    }
+
+    // One call, with its answer.
+    fn answer(&mut self, call: Call<'_>, waiting: &mut [u8], returning: &mut [Returning]) -> Answer
+        ensures catalog { self.new.catalog ≡ self.old.catalog }
+        ensures performs { ServesLent C.Catalog.meaning self.old (buffers waiting.old returning.old) (call_of (rooms_of waiting.old returning.old) call.entry) result self.new (buffers waiting.new returning.new) }
+        ensures past { Past 128 waiting.old waiting.new }
+        ensures past_returning { Past 2048 returning.old returning.new }
+    {
+        match call {
+            Call::Open { sizes, time } => self
+                .open(sizes, time)
+                .map_or_else(Answer::Refused, |()| Answer::Opened),
+            Call::Add { constraint, lent } => self
+                .add_lent(constraint, lent, waiting, returning)
+                .map_or_else(Answer::Refused, Answer::Changed),
+            Call::Retract { constraint, lent } => self
+                .retract_lent(constraint, lent, waiting, returning)
+                .map_or_else(Answer::Refused, Answer::Changed),
+            Call::Domain(variable) => self
+                .domain(variable)
+                .map_or_else(Answer::Refused, Answer::Domain),
+            Call::Shown { variable, value } => self
+                .is_shown(variable, value)
+                .map_or_else(Answer::Refused, Answer::Shown),
+            Call::Justification { variable, value } => self
+                .justification(variable, value)
+                .map_or_else(Answer::Refused, Answer::Justified),
+            Call::WipedOut => Answer::Wiped(self.wiped_out()),
+        }
+    }
+
+    // Performs the calls, one after another, as many as there are entries for their answers. On a network that stands rightly the answers are those of the
+    // law of networks, whatever the calls are, in any order and accepted or not.
+    pub fn perform(
+        &mut self,
+        calls: &[Call<'_>],
+        answers: &mut [Answer],
+        waiting: &mut [u8],
+        returning: &mut [Returning],
+    )
+        ensures catalog { self.new.catalog ≡ self.old.catalog }
+        ensures stands { Stands C.Catalog.meaning self.old → Stands C.Catalog.meaning self.new }
+        ensures law { Stands C.Catalog.meaning self.old → History (C.Catalog.meaning self.old.catalog) (moment_of self.old.state) (buffers waiting.old returning.old) (calls_of (rooms_of waiting.old returning.old) (take (length answers.old) calls.now)) (take (length calls.now) answers.new) (moment_of self.new.state) (buffers waiting.new returning.new) }
+        ensures answers { Past (length calls.now) answers.old answers.new }
+        ensures past { Past 128 waiting.old waiting.new }
+        ensures past_returning { Past 2048 returning.old returning.new }
+    {
+        // The place is that of the call and of its answer: after `iter_mut().zip(..)` nothing is known of what was written.
+        let there = calls.len().min(answers.len());
+        for (i, call) in calls[..there].iter().enumerate() {
+            answers[i] = self.answer(*call, waiting, returning);
+        }
     }
 }
 
-// Makes a network on the catalog and performs the calls on it, one after another, with their answers. Whatever the calls are, in any
-// order and accepted or not, the answers are those of the law of networks.
-pub fn perform<C: Catalog + Drop>(
-    heap: Global,
+// Makes a network on the catalog and performs the calls on it, one after another, as many as there are entries for their answers. Whatever the calls
+// are, in any order and accepted or not, the answers are those of the law of networks, and the network comes back as they left it.
+pub fn perform<C: Catalog>(
     catalog: C,
     calls: &[Call<'_>],
+    answers: &mut [Answer],
     waiting: &mut [u8],
     returning: &mut [Returning],
-) -> Result<Vec<Answer>, AllocError>
-    ensures law { IfOk result (λ v. Run (C.Catalog.meaning catalog) (calls_of (rooms_of waiting.old returning.old) calls.now) v.items) }
+) -> Network<C>
+    ensures catalog { result.catalog ≡ catalog }
+    ensures stands { Stands C.Catalog.meaning result }
+    ensures law { Run (C.Catalog.meaning catalog) (buffers waiting.old returning.old) (calls_of (rooms_of waiting.old returning.old) (take (length answers.old) calls.now)) (take (length calls.now) answers.new) (moment_of result.state) (buffers waiting.new returning.new) }
+    ensures answers { Past (length calls.now) answers.old answers.new }
     ensures past { Past 128 waiting.old waiting.new }
     ensures past_returning { Past 2048 returning.old returning.new }
 {
-    let mut answers = Vec::with_capacity(heap, calls.len())?;
     let mut network = Network::new(catalog);
-    // A loop: each call alters the network and the rooms, which nothing is known of after a chain's closure.
-    for call in calls {
-        let answer = answer(&mut network, *call, waiting, returning);
-        answers.push_reserved(answer);
-    }
-    Ok(answers)
+    network.perform(calls, answers, waiting, returning);
+    network
 }

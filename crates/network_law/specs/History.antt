@@ -2,21 +2,28 @@
 use Rattle.std.specs.Prelude.{◌≡◌, List, [], ◌∷◌}
 use Rattle.catalog.specs.Meaning.{Meaning}
 use Rattle.network_law.specs.declared.Answer.{Answer}
+use Rattle.network_law.specs.Buffers.{Buffers, Leaves}
 use Rattle.network_law.specs.Moment.{Moment, Blank, Right}
 use Rattle.network_law.specs.Calls.{Call}
+use Rattle.network_law.specs.Refusals.{refusal, spent}
 use Rattle.network_law.specs.Step.{Step}
 
--- From the moment s these calls, one after another, with these answers, lead to the moment t.
-abbrev pub History : Meaning → Moment → List Call → List Answer → Moment → Type 0
-History m s [] [] t = t ≡ s
-History m s [] (a ∷ answers) t = ⊥
-History m s (k ∷ calls) [] t = ⊥
-History m s (k ∷ calls) (a ∷ answers) t = (u : Moment) × Step m s k a u × History m u calls answers t
+-- One call, with its answer: what stood before and after it, and what the lent buffers held.
+pub record Performed (m : Meaning) (s : Moment) (b : Buffers) (k : Call) (a : Answer) (t : Moment) (b' : Buffers) : Type 0 where
+  pub step : Step m s k a t
+  pub buffers : Leaves (refusal m s.book (spent s.clock) k) k b b'
 
--- the calls, with these answers, on a network newly made
-pub record Run (m : Meaning) (calls : List Call) (answers : List Answer) : Type 0 where
+-- From the moment s, with the buffers b, these calls, one after another, with these answers, lead to the moment t and the buffers c.
+abbrev pub History : Meaning → Moment → Buffers → List Call → List Answer → Moment → Buffers → Type 0
+History m s b [] [] t c = (t ≡ s) × (c ≡ b)
+History m s b [] (a ∷ answers) t c = ⊥
+History m s b (k ∷ calls) [] t c = ⊥
+History m s b (k ∷ calls) (a ∷ answers) t c =
+    (u : Moment) × (d : Buffers) × Performed m s b k a u d × History m u d calls answers t c
+
+-- the calls, with these answers, on a network newly made lead to the moment t and the buffers c
+pub record Run (m : Meaning) (b : Buffers) (calls : List Call) (answers : List Answer) (t : Moment) (c : Buffers) : Type 0 where
   pub first : Moment
-  pub last : Moment
   pub blank : Blank first
   pub right : Right m first
-  pub history : History m first calls answers last
+  pub history : History m first b calls answers t c

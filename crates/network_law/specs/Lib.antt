@@ -1,5 +1,6 @@
 pub mod Moment
 pub mod Calls
+pub mod Buffers
 pub mod Refusals
 pub mod Counting
 pub mod Step

@@ -5,8 +5,9 @@ use Rattle.arcs.specs.WipedOut.{WipedOut}
 use Rattle.bits.specs.Bits.{has_bit}
 use Rattle.catalog.specs.Meaning.{Meaning}
 use Rattle.justify.specs.Standing.{Reasons, Out, Rests}
-use Rattle.justify.specs.Changes.{Same}
+use Rattle.justify.specs.Changes.{Dated, Same}
 use Rattle.refusal.specs.declared.Refusal.{Refusal}
+use Rattle.refusal.specs.Number.{number_of}
 use Rattle.network_law.specs.declared.Answer.{Answer}
 use Rattle.network_law.specs.declared.Answer.TheVariants.{Opened, Changed, Domain, Shown, Justified, Wiped, Refused}
 use Rattle.network_law.specs.declared.Change.{Change}
@@ -78,11 +79,24 @@ pub record Accepted (m : Meaning) (s : Moment) (k : Call) (a : Answer) (t : Mome
   pub book : Agrees t.book (next s.book k)
   -- a value that was out keeps its justification, unless the call freed it
   pub kept : (i x : ℕ) → Out (bound s) s.standing i x → (Frees m s k i x → ⊥) → Same s.standing t.standing i x
+  -- a value put out takes the clock's time: one that is out after with an earlier time was out before, with the same justification
+  pub dated : Dated (bound t) s.clock s.standing t.standing
   pub answer : Answered s k a t
 
--- a refused call: it answers its cause, and nothing changed
+-- the number by which an answer turns its call down, or nothing where it does not
+abbrev pub refused_by : Answer → Option ℕ
+refused_by Opened = None
+refused_by (Changed c) = None
+refused_by (Domain d) = None
+refused_by (Shown b) = None
+refused_by (Justified j) = None
+refused_by (Wiped o) = None
+refused_by (Refused e) = Some (number_of e)
+
+-- a refused call: it answers its cause, by its number, and nothing changed
 pub record Declined (s : Moment) (e : Refusal) (a : Answer) (t : Moment) : Type 0 where
   pub answer : a ≡ Refused e
+  pub number : refused_by a ≡ Some (number_of e)
   pub unchanged : t ≡ s
 
 -- refused or accepted, as the first cause against the call says

@@ -8,14 +8,14 @@ use Rattle.refusal.proofs.Sizes.{Fitting, sizes_accepted}
 use Rattle.domains.specs.declared.Constraints.{Constraints}
 use Rattle.domains.specs.declared.Domains.{Domains}
 use Rattle.domains.specs.Make.{no_constraints, no_domains}
-use Rattle.domains.specs.Model.{is_present}
+use Rattle.domains.specs.Model.{is_present, shown}
 use Rattle.engine.specs.Calls.{Opened as OpenedIn}
 use Rattle.network_law.specs.declared.Answer.TheVariants.{Opened}
 use Rattle.network_law.specs.Moment.{Moment, Blank}
 use Rattle.network_law.specs.Calls.{opens}
 use Rattle.network_law.specs.Step.{Step, Turned}
 use Rattle.network_model.specs.Model.{moment, Links}
-use Rattle.network_model.proofs.Steps.{right_here}
+use Rattle.network_model.proofs.Steps.{out_here, right_here}
 
 unset : (n p : ℕ) → get_or (replicate n false) p false ≡ false
 unset n p =
@@ -81,6 +81,7 @@ module _ (m : Meaning) (lawful : Lawful m) (c c' : Constraints) (d' : Domains) (
             (record {
               book = record { sizes = sizes_list; present = opened.none };
               kept = λ i x out free. absurd (free tt);
+              dated = λ i x out _. absurd (both_ways (shown d' i x) out.gone (opened.all i x ∙ (out_here m lawful c' d' (length sizes) (replicate 128 false) (links_open (replicate 128 false) refl) i x out).inside));
               answer = record { opened = refl; all = λ i x. opened.all i x ∙ ap (ltb x) (size_at i); clock = opened.clock };
             });
         right = right_here m lawful c' d' (length sizes) (replicate 128 false) (links_open (replicate 128 false) refl) opened.stands;

@@ -6,6 +6,7 @@ use Rattle.arcs.specs.WipedOut.{WipedOut}
 use Rattle.catalog.specs.Meaning.{Meaning, Lawful}
 use Rattle.catalog.specs.Constraints.{arcs_of}
 use Rattle.justify.specs.Standing.{Out, Justified, Timed, Rests}
+use Rattle.justify.specs.Changes.{Dated}
 use Rattle.justify.proofs.Keeps.{same_refl}
 use Rattle.refusal.specs.declared.Refusal.{Refusal}
 use Rattle.domains.specs.declared.Constraints.{Constraints}
@@ -30,14 +31,14 @@ use Rattle.network_model.proofs.Change.{present_set}
 pub step_refused : (m : Meaning) (s : Moment) (k : Call) (e : Refusal) → refusal m s.book (spent s.clock) k ≡ Some e → Right m s → Step m s k (Refused e) s
 step_refused m s k e why right =
     record {
-      turned = subst (λ o. Turned o m s k (Refused e) s) (sym why) (record { answer = refl; unchanged = refl });
+      turned = subst (λ o. Turned o m s k (Refused e) s) (sym why) (record { answer = refl; number = refl; unchanged = refl });
       right = right;
     }
 
 pub step_asked : (m : Meaning) (s : Moment) (k : Call) (a : Answer) → refusal m s.book (spent s.clock) k ≡ None → Agrees s.book (next s.book k) → Answered s k a s → Right m s → Step m s k a s
 step_asked m s k a none book answer right =
     record {
-      turned = subst (λ o. Turned o m s k a s) (sym none) (record { book = book; kept = λ i x out _. same_refl s.standing i x; answer = answer });
+      turned = subst (λ o. Turned o m s k a s) (sym none) (record { book = book; kept = λ i x out _. same_refl s.standing i x; dated = λ i x out _. (out, same_refl s.standing i x); answer = answer });
       right = right;
     }
 
@@ -64,7 +65,7 @@ module _ (m : Meaning) (lawful : Lawful m) (c : Constraints) (d : Domains) (n : 
         timed = subst (λ b. Timed b (standing d) d.clock) (sym here) r.timed;
       }
 
-  out_here : (i x : ℕ) → Out (bound (moment c d n)) (standing d) i x → Out (within c) (standing d) i x
+  pub out_here : (i x : ℕ) → Out (bound (moment c d n)) (standing d) i x → Out (within c) (standing d) i x
   out_here i x out = subst (λ b. Out b (standing d) i x) here out
 
   rests_here : Justified (arcs_in c) (within c) (standing d) → (p i x : ℕ) → Rests (arcs_in c) (within c) (standing d) (reason_is p) i x
@@ -100,6 +101,7 @@ module _ (m : Meaning) (lawful : Lawful m) (c c₁ c' : Constraints) (d d' : Dom
             (record {
               book = book_set true added.constraints;
               kept = λ i x out _. added.went.kept i x (subst (λ b. Out b (standing d) i x) (sym (same_within true added.constraints)) (out_here m lawful c d n known links i x out));
+              dated = subst (λ b. Dated b d.clock (standing d) (standing d')) (sym (here m lawful c' d' n known' links')) added.went.dated;
               answer = (
                 record { values = k; wiped = o },
                 refl,
@@ -122,6 +124,9 @@ module _ (m : Meaning) (lawful : Lawful m) (c c₁ c' : Constraints) (d d' : Dom
             (record {
               book = book_set false (gone.constraints ∙ ap (λ v. with_present v p false) (sym same));
               kept = λ i x out free. gone.kept i x (out_here m lawful c d n known links i x out) (λ r. free (rests_here m lawful c d n known links just p i x r));
+              dated =
+                  subst (λ b. Dated b d.clock (standing d) (standing d'))
+                  (sym (here m lawful c' d' n known' links' ∙ same_within false (gone.constraints ∙ ap (λ v. with_present v p false) (sym same)))) gone.dated;
               answer = (
                 record { values = k; wiped = o },
                 refl,

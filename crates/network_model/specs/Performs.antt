@@ -8,7 +8,9 @@ use Rattle.network_law.specs.declared.Answer.{Answer}
 use Rattle.network_law.specs.declared.Answer.TheVariants.{Refused}
 use Rattle.domains.specs.Model.{is_present}
 use Rattle.domains.specs.declared.Returning.{Returning}
+use Rattle.network_law.specs.Buffers.{Buffers}
 use Rattle.network_law.specs.Calls.{Call, Rooms}
+use Rattle.network_law.specs.History.{Performed}
 use Rattle.network_law.specs.Refusals.{lent_refusal, spent, when}
 use Rattle.network_law.specs.Step.{Step}
 use Rattle.network_model.specs.declared.State.{State}
@@ -22,6 +24,15 @@ pub record Took (m : Meaning) (s : State) (k : Call) (a : Answer) (s' : State) :
 -- it does so from every state that stands rightly beside the catalog
 abbrev pub Performs : Meaning → State → Call → Answer → State → Type 0
 Performs m s k a s' = Linked m s → Took m s k a s'
+
+-- what two buffers hold
+abbrev pub buffers : List ℕ → List Returning → Buffers
+buffers waiting returning = record { waiting = waiting; returning = returning }
+
+-- the same of a call that is lent buffers: it led from what stood in state and buffers to what stands in them now
+pub record TookLent (m : Meaning) (s : State) (b : Buffers) (k : Call) (a : Answer) (s' : State) (b' : Buffers) : Type 0 where
+  pub linked : Linked m s'
+  pub performed : Performed m (moment_of s) b k a (moment_of s') b'
 
 -- a result as an answer
 abbrev pub answer_by : {T : Type 0} → (T → Answer) → Result T Refusal → Answer

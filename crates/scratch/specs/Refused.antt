@@ -1,6 +1,8 @@
 -- When a computation from scratch is refused, and by which cause.
 use Rattle.std.specs.Prelude.{ℕ, cond, List, [], ◌∷◌, length, Some, None, Option, nat_le}
 use Rattle.catalog.specs.Meaning.{Meaning}
+use Rattle.std.specs.Option.{option_map}
+use Rattle.refusal.specs.Number.{number_of}
 use Rattle.refusal.specs.Causes.{first, sizes_refusal, constraint_refusal}
 use Rattle.refusal.specs.declared.Refusal.{Refusal}
 use Rattle.refusal.specs.declared.Refusal.TheVariants.{ShortResult}
@@ -15,3 +17,7 @@ abbrev pub refusal : Meaning → List ℕ → List ℕ → ℕ → Option Refusa
 refusal m sizes indices room =
     first (sizes_refusal sizes)
     (first (indices_refusal m (length sizes) indices) (cond (nat_le (length sizes) room) None (Some ShortResult)))
+
+-- the number by which it is refused, or nothing
+abbrev pub refusal_number : Meaning → List ℕ → List ℕ → ℕ → Option ℕ
+refusal_number m sizes indices room = option_map number_of (refusal m sizes indices room)

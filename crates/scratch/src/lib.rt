@@ -2,7 +2,9 @@
 #![tactic(auto)]
 
 ghost use Rattle.std.specs.Prelude.{◌≡◌, length, None, MatchResult};
-ghost use Rattle.scratch.specs.Refused.{refusal};
+ghost use Rattle.scratch.specs.Refused.{refusal, refusal_number};
+ghost use Rattle.refusal.specs.Number.{number_of};
+ghost use Rattle.std.specs.Option.{option_map};
 ghost use Rattle.scratch.specs.Written.{Written};
 ghost use Rattle.std.specs.Result.{result_err};
 
@@ -38,6 +40,7 @@ pub fn largest_domains<C: Catalog>(
     out: &mut [u64],
 ) -> Result<(), Refusal>
     ensures refused { result_err result ≡ refusal (C.Catalog.meaning catalog.now) sizes.now indices.now (length out.old) }
+    ensures number { option_map number_of (result_err result) ≡ refusal_number (C.Catalog.meaning catalog.now) sizes.now indices.now (length out.old) }
     ensures cases { MatchResult result (λ _. Written (C.Catalog.meaning catalog.now) sizes.now indices.now out.old out.new) (λ _. out.new ≡ out.old) }
 {
     let request = Request {

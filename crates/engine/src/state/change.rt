@@ -1,7 +1,7 @@
 // A constraint goes in or out, and the domains follow.
 ghost use Rattle.std.specs.Prelude.{◌≡◌, ℕ, ◌+◌, ◌<◌, ◌≤◌, true, false, length, ◌≢◌, slice_index, slice_index_or};
 ghost use Rattle.arcs.specs.Family.{Inside};
-ghost use Rattle.justify.specs.Changes.{Released, Same};
+ghost use Rattle.justify.specs.Changes.{Dated, Released, Same};
 ghost use Rattle.justify.specs.Standing.{Out, Rests};
 ghost use Rattle.queue.specs.Waiting.{Kept};
 ghost use Rattle.domains.specs.Model.{arcs_of, left_of, reason_is, right_of, shown, standing, within};
@@ -84,6 +84,7 @@ impl Engine {
         requires returns { 2048 ≤ length returning.old }
         ensures absent { self.new.constraints ≡ with_present self.old.constraints constraint false }
         ensures kept { (i x : ℕ) → Out (within self.old.constraints) (standing self.old.domains) i x → (Rests (arcs_of self.old.constraints) (within self.old.constraints) (standing self.old.domains) (reason_is constraint) i x → ⊥) → Same (standing self.old.domains) (standing self.new.domains) i x }
+        ensures dated { Dated (within self.old.constraints) self.old.domains.clock (standing self.old.domains) (standing self.new.domains) }
         ensures grew { Inside (shown self.new.domains) (shown self.old.domains) }
         ensures later { self.old.domains.clock ≤ self.new.domains.clock }
         ensures soon { self.new.domains.clock ≤ self.old.domains.clock + 2048 }

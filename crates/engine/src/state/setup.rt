@@ -7,7 +7,7 @@ ghost use Rattle.engine.specs.Calls.{Loadable, Opened, can_load, load_fault};
 
 use super::Engine;
 use crate::fault::LoadFault;
-use domains::{Constraints, Ends, capped, full, no_constraints, no_domains};
+use domains::{Constraints, Ends, capped, full, no_constraints, no_domains, no_justifications};
 
 // May the constraint be given these ends? They are two numbers still, which only the test shows to be ends.
 fn check_load(
@@ -62,15 +62,17 @@ impl Engine {
         }
     }
 
-    // Takes every constraint out, and shows every value below the sizes.
+    // Takes every constraint out, shows every value below the sizes, and fills the justifications anew.
     pub fn open(&mut self, sizes: &[u8], time: u32)
         ensures { Opened self.old.constraints self.new.constraints self.new.domains sizes.now time }
     {
         let sizes = capped(sizes);
         let sets = full(&sizes);
+        let why = no_justifications();
         self.constraints.sizes = sizes;
         self.constraints.present = [false; 128];
         self.domains.sets = sets;
+        self.domains.why = why;
         self.domains.clock = time;
     }
 

@@ -1,7 +1,8 @@
 // A network is made, and opened.
-ghost use Rattle.std.specs.Prelude.{◌≡◌, ℕ, ◌<◌, ◌≤◌, None, length, slice_index};
+ghost use Rattle.std.specs.Prelude.{◌≡◌, ℕ, ◌<◌, ◌≤◌, None, length, slice_index, OnErr};
+ghost use Rattle.std.specs.Result.{result_err};
 ghost use Rattle.network_law.specs.Calls.{opens};
-ghost use Rattle.network_law.specs.Moment.{Blank};
+ghost use Rattle.network_law.specs.Moment.{Blank, Right};
 ghost use Rattle.network_law.specs.declared.Answer.TheVariants.{Opened};
 ghost use Rattle.network_model.specs.Model.{moment_of};
 ghost use Rattle.network.specs.Served.{Serves, Stands};
@@ -42,11 +43,12 @@ fn narrow(sizes: &[usize]) -> [u8; 32]
 }
 
 impl<C: Catalog> Network<C> {
-    // A network with no variables, and no constraint in, at time 0.
+    // A network with no variables, and no constraint in, at time 0. Everything stands rightly in it.
     pub fn new(catalog: C) -> Network<C>
         ensures catalog { result.catalog ≡ catalog }
         ensures linked { Stands C.Catalog.meaning result }
         ensures blank { Blank (moment_of result.state) }
+        ensures right { Right (C.Catalog.meaning catalog) (moment_of result.state) }
     {
         let state = State {
             engine: Engine::new(),
@@ -60,6 +62,8 @@ impl<C: Catalog> Network<C> {
     pub fn open(&mut self, sizes: &[usize], time: u32) -> Result<(), Refusal>
         ensures catalog { self.new.catalog ≡ self.old.catalog }
         ensures performs { Serves C.Catalog.meaning self.old (opens sizes.now time) (answer_by (λ _. Opened) result) self.new }
+        ensures refused { result_err result ≡ sizes_refusal sizes.now }
+        ensures unchanged { OnErr result (self.new ≡ self.old) }
     {
         check_sizes(sizes)?;
         self.state.engine.open(&narrow(sizes), time);

@@ -21,6 +21,7 @@ returns c =
             right = right_now c.take_out.new.self.constraints c.take_out.new.self.domains (stood c.take_out.new.self);
             grew = c.take_out.ensures.grew;
             kept = c.take_out.ensures.kept;
+            dated = c.take_out.ensures.dated;
             later = c.take_out.ensures.later;
             soon = c.take_out.ensures.soon;
             count = omega (

@@ -4,7 +4,7 @@ use Rattle.domains.specs.Model.{arcs_of, shown, total}
 use Rattle.domains.specs.Sound.{Shape, Sound, Settled, Went}
 use Rattle.domains.specs.Stands.{Stands, with_present}
 use Rattle.domains.proofs.Lengths.{same_data}
-use Rattle.domains.proofs.Change.{shape_out, sound_out, settled_out, grew_out, kept_out, time_left}
+use Rattle.domains.proofs.Change.{shape_out, sound_out, settled_out, dated_out, grew_out, kept_out, time_left}
 use Rattle.domains.proofs.Entries.{total_few}
 use Rattle.engine.proofs.Called.{stands_again, stood}
 use Rattle.engine.proofs.Start.{queued_start}
@@ -48,6 +48,7 @@ returns c =
     record {
       absent = same_data;
       kept = kept_out n d d' p c.requires.low (stood c.args.self.now) c.release_through.ensures.released c.release_through.ensures.clock d'' (subst (λ k. Went k d' d'') same_data c.propagate.ensures.went);
+      dated = dated_out n d d' p c.requires.low (stood c.args.self.now) c.release_through.ensures.released c.release_through.ensures.clock d'' (subst (λ k. Went k d' d'') same_data c.propagate.ensures.went);
       grew = grew_out n d d' p c.requires.low (stood c.args.self.now) c.release_through.ensures.released c.release_through.ensures.clock d'' stands;
       later = omega (arith, c.release_through.ensures.clock, c.propagate.ensures.went.later);
       soon = omega (arith, few, d'.sets_long, c.release_through.ensures.clock, c.propagate.ensures.went.spent);

@@ -16,6 +16,8 @@ returns-in_err-check_sizes g c =
       performs = λ linked.
           refused (g.C.Catalog.meaning n.catalog) (g.C.Catalog.lawful n.catalog) n.state linked (opens c.args.sizes.now c.args.time) p.0
           (sym (ap Some p.2 ∙ c.in_err-check_sizes.ensures));
+      refused = ap Some p.2 ∙ c.in_err-check_sizes.ensures;
+      unchanged = refl;
     })
 
 pub returns : goal.returns
@@ -33,4 +35,6 @@ returns g c =
             step = step_open m lawful n.state.engine.constraints e.constraints e.domains c.args.sizes.now c.narrow.result c.args.time
                 (sym c.in_ok-check_sizes.ensures) c.narrow.ensures e.constraints.sizes_long c.open.ensures (moment_of n.state);
           };
+      refused = c.in_ok-check_sizes.ensures;
+      unchanged = tt;
     }

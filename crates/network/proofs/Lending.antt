@@ -1,0 +1,88 @@
+-- Calls that are lent a part of each buffer.
+use Rattle.std.proofs.Common.{◌≡◌, ℕ, ◌+◌, ◌<◌, ◌≤◌, min, List, ◌++◌, length, take, drop, Some, None, Option, Ok, Err, Result, OnErr, sym, refl, ap, ◌∙◌, ⊎_elim, subst, subst₂, arith}
+use Rattle.std.proofs.lemmas.Bool.{cases_lt}
+use Rattle.std.proofs.lemmas.List.{length-append, length-take-le, take-append-drop, drop-append-le}
+use Rattle.std.proofs.lemmas.Slice.{drop-append-drop}
+use Rattle.catalog.specs.Meaning.{Meaning}
+use Rattle.refusal.specs.declared.Refusal.{Refusal}
+use Rattle.domains.specs.declared.Returning.{Returning}
+use Rattle.domains.specs.Stands.{Past}
+use Rattle.network_law.specs.declared.Answer.{Answer}
+use Rattle.network_law.specs.declared.Answer.TheVariants.{Changed, Refused}
+use Rattle.network_law.specs.declared.Change.{Change}
+use Rattle.network_law.specs.Buffers.{Buffers, Writes, Leaves}
+use Rattle.network_law.specs.Calls.{Call, Rooms}
+use Rattle.network_law.specs.Moment.{Moment}
+use Rattle.network_law.specs.Step.{Turned}
+use Rattle.network_model.specs.declared.State.{State}
+use Rattle.network_model.specs.Performs.{Took, TookLent, answer_by, buffers, rooms_of}
+use Rattle.network.specs.Requests.{cut}
+use Rattle.network.specs.declared.calls.Lent.{Lent}
+
+-- what is left past a part of a buffer, and in it past its first n entries, is left of the buffer past them
+pub past_part : {T : Type 0} (n k : ℕ) (xs ys : List T) → k ≤ length xs → Past n (take k xs) ys → Past n xs (ys ++ drop k xs)
+past_part {T} n k xs ys few p =
+    let part : length (take k xs) ≡ k = length-take-le k xs few in
+    let whole : length (take k xs ++ drop k xs) ≡ length xs = ap length (take-append-drop k xs) in
+    record {
+      long = length-append ys (drop k xs) ∙ ap (λ m. m + length (drop k xs)) p.long ∙ sym (length-append (take k xs) (drop k xs)) ∙ whole;
+      rest =
+          ⊎_elim
+          (λ l. drop-append-drop k xs ys n (omega arith) (p.long ∙ part))
+          (λ g.
+          drop-append-le n ys (drop k xs) (omega (arith, p.long, part))
+          ∙ ap (λ z. z ++ drop k xs) p.rest
+          ∙ sym (drop-append-le n (take k xs) (drop k xs) (omega (arith, part)))
+          ∙ ap (drop n) (take-append-drop k xs))
+          (cases_lt k n);
+    }
+
+-- a part that is as it was
+pub same_part : {T : Type 0} (k : ℕ) (xs ys : List T) → ys ≡ take k xs → ys ++ drop k xs ≡ xs
+same_part k xs ys e = ap (λ z. z ++ drop k xs) e ∙ take-append-drop k xs
+
+no_refusal : (c : Change) (e : Refusal) → Changed c ≡ Refused e → ⊥
+no_refusal c e q = let z : ◌≡◌ {A = ℕ} 0 1 = cc in omega arith
+
+leaves_changed
+    : (o : Option Refusal) (m : Meaning) (s : Moment) (k : Call) (r : Result Change Refusal) (t : Moment) (b b' : Buffers) → Turned o m s k (answer_by Changed r) t → OnErr r (b' ≡ b) → Writes k b b' → Leaves o k b b'
+leaves_changed None m s k r t b b' turned err writes = writes
+leaves_changed (Some e) m s k (Ok c) t b b' turned err writes = absurd (no_refusal c e turned.answer)
+leaves_changed (Some e) m s k (Err f) t b b' turned err writes = err
+
+-- a change that leaves the buffers alone where it is refused, and writes what it may where not
+pub took_lent : (m : Meaning) (s s' : State) (b b' : Buffers) (k : Call) (r : Result Change Refusal) → Took m s k (answer_by Changed r) s' → OnErr r (b' ≡ b) → Writes k b b' → TookLent m s b k (answer_by Changed r) s' b'
+took_lent m s s' b b' k r took err writes =
+    record {
+      linked = took.linked;
+      performed = record { step = took.step; buffers = leaves_changed _ m _ k r _ b b' took.step.turned err writes };
+    }
+
+pub err_both : (w w' : List ℕ) (v v' : List Returning) (r : Result Change Refusal) → OnErr r (w' ≡ w) → OnErr r (v' ≡ v) → OnErr r (buffers w' v' ≡ buffers w v)
+err_both w w' v v' (Ok c) e f = tt
+err_both w w' v v' (Err x) e f = ap (λ z. buffers z v') e ∙ ap (buffers w) f
+
+pub err_part : (w w' : List ℕ) (v v' : List Returning) (k l : ℕ) (r : Result Change Refusal) → OnErr r (w' ≡ take k w) → OnErr r (v' ≡ take l v) → OnErr r (buffers (w' ++ drop k w) (v' ++ drop l v) ≡ buffers w v)
+err_part w w' v v' k l (Ok c) e f = tt
+err_part w w' v v' k l (Err x) e f = err_both w (w' ++ drop k w) v (v' ++ drop l v) (Err x) (same_part k w w' e) (same_part l v v' f)
+
+unwritten : (o : Option Refusal) (k : Call) (b : Buffers) → Writes k b b → Leaves o k b b
+unwritten None k b w = w
+unwritten (Some e) k b w = refl
+
+-- a call that writes nothing
+pub took_alone : (m : Meaning) (s s' : State) (b : Buffers) (k : Call) (a : Answer) → Took m s k a s' → Writes k b b → TookLent m s b k a s' b
+took_alone m s s' b k a took w =
+    record { linked = took.linked; performed = record { step = took.step; buffers = unwritten _ k b w } }
+
+-- what holds holds where a result is an error
+pub on_err : {A E : Type 0} {P : Type 0} (r : Result A E) → P → OnErr r P
+on_err (Ok x) p = tt
+on_err (Err e) p = p
+
+-- the parts are as long as the call is lent
+pub lent_rooms : (w : List ℕ) (v : List Returning) (k l : ℕ) (lent : Lent) → k ≡ min lent.waiting (length w) → l ≡ min lent.returning (length v) → rooms_of (take k w) (take l v) ≡ cut (rooms_of w v) lent
+lent_rooms w v k l lent e f =
+    let p : length (take k w) ≡ min lent.waiting (length w) = length-take-le k w (omega (arith, e)) ∙ e in
+    let q : length (take l v) ≡ min lent.returning (length v) = length-take-le l v (omega (arith, f)) ∙ f in
+    λ i. record { waiting = p i; returning = q i }
