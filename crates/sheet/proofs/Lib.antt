@@ -1,5 +1,8 @@
 mod Answered
 pub mod Chunks
 pub mod Encoded
+mod Entries
+mod Laying
+mod Putting
 mod Unknown
 mod Used

@@ -7,8 +7,10 @@ mod checking;
 mod formula;
 mod progress;
 mod reader;
+mod writer;
 
 pub use accepted::Accepted;
 pub use checking::check;
 pub use formula::Formula;
 pub use reader::{Part, Record, read_record};
+pub use writer::Writer;

@@ -1,0 +1,7 @@
+use Rattle.sheet_format.specs.Value.{sum}
+use Rattle.sheet_format.specs.Writing.{has_constraint}
+use Rattle.sheet.proofs.Entries.{put_entry}
+use Rattle.sheet.proofs.writer.Writer.sum.Goals as goal
+
+pub returns : goal.returns
+returns c = put_entry (has_constraint (sum c.args.left c.args.right c.args.formula.m c.args.formula.k c.args.formula.lo c.args.formula.hi)) _ c.args.self.now c.args.buffer.now _ _ _ c.sum_body.ensures c.put.ensures
