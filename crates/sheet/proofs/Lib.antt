@@ -3,6 +3,7 @@ pub mod Chunks
 pub mod Encoded
 mod Entries
 mod Laying
+mod Limits
 mod Putting
 mod Unknown
 mod Used

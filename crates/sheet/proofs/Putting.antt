@@ -7,7 +7,9 @@ use Rattle.sheet_format.specs.Verdict.{Tally, Step, step}
 use Rattle.sheet_format.specs.Writing.{Pen, lies_in, put_step, put}
 use Rattle.sheet.specs.declared.progress.Next.{Next}
 use Rattle.sheet.specs.declared.progress.Next.TheVariants.{Heading, Variable, Constraint, Move, End}
-use Rattle.sheet.specs.Steps.{is_end, kept, next_step, Became}
+use Rattle.sheet.specs.Steps.{is_end, kept, next_step, Fits, Became}
+use Rattle.sheet.specs.Sizes.{SizesLow}
+use Rattle.sheet.proofs.Limits.{low_push}
 
 pub same_shown : (s t : Shown) → Some s ≡ Some t → s ≡ t
 same_shown s t e = cc
@@ -48,6 +50,14 @@ became_moves g h after (Variable v) e = let m = ap (λ t. t.moves) e in omega ar
 became_moves g h after Constraint e = let m = ap (λ t. t.moves) e in omega arith
 became_moves g h after Move e = let m = ap (λ t. t.moves) e in omega arith
 became_moves g h after End e = let m = ap (λ t. t.moves) e in omega arith
+
+-- no variable of more than 64 values comes
+pub became_low : (g h : Tally) (after : ℕ) (next : Next) → Became g (next_step g after next) h → Fits g next → SizesLow g.variables → SizesLow h.variables
+became_low g h after (Heading n) e fits low = subst (λ t. SizesLow t.variables) (sym e) low
+became_low g h after (Variable v) e fits low = subst (λ t. SizesLow t.variables) (sym e) (low_push g.variables v low fits.1)
+became_low g h after Constraint e fits low = subst (λ t. SizesLow t.variables) (sym e) low
+became_low g h after Move e fits low = subst (λ t. SizesLow t.variables) (sym e) low
+became_low g h after End e fits low = subst (λ t. SizesLow t.variables) (sym e) low
 
 -- a record of so many bytes, four of them before its body
 module _ (p : Pen) (size body long : ℕ) (s : Shown) (is_open : p.is_open ≡ true) (whole : 4 + body ≡ long) where

@@ -2,3 +2,4 @@ pub mod Outcome
 pub mod Steps
 pub mod Advance
 pub mod Sums
+pub mod Sizes

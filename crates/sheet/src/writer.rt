@@ -1,17 +1,21 @@
 // Writing a sheet, one record at a time, into a buffer that each call is lent.
-ghost use Rattle.std.specs.Prelude.{◌≡◌, ◌+◌, ◌<◌, ◌≤◌, true, false, length, Some};
+ghost use Rattle.std.specs.Prelude.{◌≡◌, ◌+◌, ◌<◌, ◌≤◌, true, false, ◌∷◌, ◌++◌, length, Some};
 ghost use Rattle.sheet_format.specs.Kinds.{kind_number};
 ghost use Rattle.sheet_format.specs.Value.{sum, table, add, retract};
 ghost use Rattle.sheet_format.specs.Encoding.{framed, heading_record, variable_record, constraint_record};
-ghost use Rattle.sheet_format.specs.Numbers.{two, four};
+ghost use Rattle.sheet_format.specs.Numbers.{two, four, eight};
+ghost use Rattle.std.specs.List.{flat_map};
+ghost use Rattle.arrayvec.specs.ArrayVec.{array_vec_len};
 ghost use Rattle.std.proofs.Common.{of_z};
 ghost use Rattle.std.specs.Int.{w16, w32};
 ghost use Rattle.sheet_format.specs.Reading.{Shown, shown};
+ghost use Rattle.sheet.specs.Sizes.{SizesLow};
 ghost use Rattle.sheet_format.specs.Writing.{Pen, new_pen, heads, has_variable, has_constraint, has_move, ends_here, lies_in, laid, Puts, PutsEntry, Abandons};
 
 use crate::formula::Formula;
 use crate::progress::Progress;
 use crate::reader::record_of;
+use arrayvec::ArrayVec;
 use sheet_format::{Kind, Variable, WriteFault};
 use std::marker::Model;
 
@@ -28,7 +32,7 @@ impl Model for Writer {
 
     ghost view = { λ w. record { tally = w.progress; place = w.place; is_open = w.is_open } };
 
-    ghost invariant = { λ w. (w.place ≤ 65535) × (w.progress.moves ≤ w.place) };
+    ghost invariant = { λ w. (w.place ≤ 65535) × (w.progress.moves ≤ w.place) × SizesLow w.progress.variables };
 }
 
 impl Drop for Writer {
@@ -122,6 +126,37 @@ fn index_body(index: u16) -> [u8; 2]
     [i0, i1]
 }
 
+// a row of a table
+fn row_bytes(row: u64) -> [u8; 8]
+    ensures { result ≡ eight row }
+{
+    let [r0, r1, r2, r3, r4, r5, r6, r7] = row.to_le_bytes();
+    [r0, r1, r2, r3, r4, r5, r6, r7]
+}
+
+// puts a row of a table after what is there
+fn push_row(body: &mut ArrayVec<u8, 522>, row: u64)
+    requires { array_vec_len body.old + 8 ≤ 522 }
+    ensures items { body.new.items ≡ body.old.items ++ eight row }
+    ensures len { array_vec_len body.new ≡ array_vec_len body.old + 8 }
+{
+    body.try_extend_from_slice(&row_bytes(row)).unwrap();
+}
+
+// the body of a table constraint of so many rows that it fits
+fn table_body(left: u8, right: u8, rows: &[u64]) -> ArrayVec<u8, 522>
+    requires { length rows.now ≤ 65 }
+    ensures { result.items ≡ left ∷ (right ∷ flat_map eight rows.now) }
+{
+    let mut body = ArrayVec::new();
+    body.push(left);
+    body.push(right);
+    for row in rows {
+        push_row(&mut body, *row);
+    }
+    body
+}
+
 impl Writer {
     // A writer that has written nothing.
     pub fn new() -> Writer
@@ -179,6 +214,22 @@ impl Writer {
         ensures { PutsEntry self.old buffer.old (has_constraint (sum left right formula.m formula.k formula.lo formula.hi)) self.new buffer.new result }
     {
         self.put(buffer, Kind::Sum, &sum_body(left, right, formula))
+    }
+
+    // Writes a table constraint between two variables, with a row for each value of the first. A table of more rows than a variable can have values
+    // is refused by its first 65.
+    pub fn table(
+        &mut self,
+        buffer: &mut [u8],
+        left: u8,
+        right: u8,
+        rows: &[u64],
+    ) -> Result<usize, WriteFault>
+        ensures { PutsEntry self.old buffer.old (has_constraint (table left right rows.now)) self.new buffer.new result }
+    {
+        let _ = &self.place;
+        let body = table_body(left, right, &rows[..rows.len().min(65)]);
+        self.put(buffer, Kind::Table, &body)
     }
 
     // Writes a move that adds the constraint at an index.

@@ -9,7 +9,7 @@ use Rattle.sheet_format.specs.Numbers.{two, eight, number2}
 use Rattle.sheet_format.specs.Value.{Constraint, table, Move, add, retract, size_at, ValidVariable, ValidEnds, ValidConstraint, ValidMove}
 use Rattle.sheet_format.specs.Encoding.{Raw, framed, heading_record, variable_record, constraint_record, move_record}
 use Rattle.sheet_format.specs.Decoding.{sum_in, rows_in}
-use Rattle.sheet_format.specs.Beginnings.{Begun, heading_begun, records_begun, bytes_begun, AllThere, Keeps}
+use Rattle.sheet_format.specs.Beginnings.{Begun, heading_begun, records_begun, bytes_begun, AllThere, Keeps, begun_of, nothing_begun, unmoved, begun_tally}
 use Rattle.sheet_format.specs.Rules.{ConstraintDue}
 use Rattle.sheet_format.specs.Reading.{Shown, shows_heading, shows_variable, shows_sum, shows_table, shows_short_table, shows_add, shows_retract, shows_end}
 use Rattle.sheet_format.specs.Verdict.{Tally, between, used, ends_good, variable_of, with_constraint, with_move}
@@ -19,7 +19,7 @@ use Rattle.sheet_law.proofs.Shows.{KindIs}
 use Rattle.sheet_law.proofs.Rows.{RowsBack, rows_back}
 use Rattle.sheet_law.proofs.Items.{same_raw, between_is, two_numbers, one_number, ends_valid, sum_again, sum_valid}
 use Rattle.sheet_law.proofs.Houses.{differ_push}
-use Rattle.sheet_law.proofs.Tallies.{past, begun_of, nothing_begun, unmoved, begun_tally, same_tally, place_more, headed, nothing_there, variables_only, no_moves, complete_is, due_is}
+use Rattle.sheet_law.proofs.Tallies.{past, same_tally, place_more, headed, nothing_there, variables_only, no_moves, complete_is, due_is}
 
 -- the beginning with one record more, of which the next tally is
 pub record Extends (b : Begun) (r : Raw) (h : Tally) : Type 0 where

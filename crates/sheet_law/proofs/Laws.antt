@@ -14,13 +14,13 @@ use Rattle.sheet_format.specs.Faults.{fault_number, fault_byte, fault_records}
 use Rattle.sheet_format.specs.Value.{Constraint, sum, table, Move, add, retract, Sheet, size_at, ValidVariable, ValidConstraint, ValidMove}
 use Rattle.sheet_format.specs.Encoding.{Raw, framed, heading_record, variable_record, constraint_record, move_record, end_record, records_of, encode, Valid}
 use Rattle.sheet_format.specs.Decoding.{first_record, split, rows_in, as_variable, as_constraint, as_move, gathered, sheet_of, decode}
-use Rattle.sheet_format.specs.Beginnings.{Begun, heading_begun, records_begun, bytes_begun, AllThere, Keeps}
+use Rattle.sheet_format.specs.Beginnings.{Begun, heading_begun, records_begun, bytes_begun, AllThere, Keeps, nothing_begun, begun_tally}
 use Rattle.sheet_format.specs.Reading.{shows_end}
 use Rattle.sheet_format.specs.Verdict.{Tally, nothing_yet, step, ends, unless, Verdict, format_fault, after_step, walked, verdict}
 use Rattle.sheet_format.specs.Law.{summary_of, Encodes, Refused, too_long, trails, goes_wrong, Law}
 use Rattle.sheet_law.proofs.NumberLaws.{two_back, Bytes}
 use Rattle.sheet_law.proofs.Framing.{Short, framed-length, framed_first}
-use Rattle.sheet_law.proofs.Tallies.{past, nothing_begun, begun_tally, is_complete}
+use Rattle.sheet_law.proofs.Tallies.{past, is_complete}
 use Rattle.sheet_law.proofs.Walks.{first_step, walked_on, later}
 use Rattle.sheet_law.proofs.Rows.{rows_there}
 use Rattle.sheet_law.proofs.Items.{sum_there}

@@ -4,10 +4,10 @@ use Rattle.std.specs.List.{flat_map, AllByRecursion}
 use Rattle.std.proofs.lemmas.List.{append_assoc}
 use Rattle.sheet_format.specs.Value.{Sheet, ValidVariable}
 use Rattle.sheet_format.specs.Encoding.{Raw, framed, heading_record, variable_record, constraint_record, move_record, end_record, records_of, encode, Valid}
-use Rattle.sheet_format.specs.Beginnings.{Begun, heading_begun, records_begun, bytes_begun, AllThere, Keeps}
+use Rattle.sheet_format.specs.Beginnings.{Begun, heading_begun, records_begun, bytes_begun, AllThere, Keeps, begun_tally}
 use Rattle.sheet_format.specs.Verdict.{Tally, summary}
 use Rattle.sheet_format.specs.Law.{summary_of}
-use Rattle.sheet_law.proofs.Tallies.{begun_tally, bytes_more, headed}
+use Rattle.sheet_law.proofs.Tallies.{bytes_more, headed}
 use Rattle.sheet_law.proofs.Forward.{reached_is}
 
 -- the sheet that a beginning with the end record is, and the beginning that a sheet is

@@ -7,7 +7,7 @@ use Rattle.sheet_format.specs.Verdict.{step}
 use Rattle.sheet_format.specs.Writing.{Pen, put}
 use Rattle.sheet.specs.Outcome.{shown_by}
 use Rattle.sheet.specs.Steps.{next_step}
-use Rattle.sheet.proofs.Putting.{same_shown, became_moves, put_fits, put_no_room}
+use Rattle.sheet.proofs.Putting.{same_shown, became_moves, became_low, put_fits, put_no_room}
 use Rattle.sheet.proofs.writer.Writer.put.Goals as goal
 
 pub returns-then-not-lies_in : goal.returns-then-not-lies_in
@@ -27,7 +27,7 @@ pub invariant_of-self : goal.invariant_of-self
 invariant_of-self c =
     let m = became_moves _ _ _ _ c.take.ensures in
     let i = c.self.invariant in
-    (search rules, omega arith)
+    (search rules, omega arith, became_low _ _ _ _ c.take.ensures c.in_ok-next.ensures.1 i.2)
 
 pub returns : goal.returns
 returns c = λ s e.

@@ -1,0 +1,12 @@
+use Rattle.std.proofs.Common.{length, take, min, ◌∙◌, subst}
+use Rattle.sheet_format.specs.Value.{table}
+use Rattle.sheet_format.specs.Writing.{has_constraint}
+use Rattle.sheet.specs.Sizes.{SizesLow}
+use Rattle.sheet.proofs.Entries.{put_entry}
+use Rattle.sheet.proofs.Limits.{few_rows}
+use Rattle.sheet.proofs.writer.Writer.table.Goals as goal
+
+pub returns : goal.returns
+returns c =
+    few_rows c.args.self.now c.args.buffer.now c.args.left c.args.right c.args.rows.now _ _ _ (subst (λ q. SizesLow q.tally.variables) c.self.view_is c.self.invariant.2)
+    (put_entry (has_constraint (table c.args.left c.args.right (take (min (length c.args.rows.now) 65) c.args.rows.now))) _ c.args.self.now c.args.buffer.now _ _ _ (c.deref.ensures.0 ∙ c.table_body-body.ensures) c.put.ensures)
