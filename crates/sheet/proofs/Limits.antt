@@ -74,16 +74,16 @@ same_refusal p xs a b rows q ys (Err fault) low many puts =
     let short = length-take-le 65 rows many in
     (refused p (length xs) a b rows low many ∙ sym (refused p (length xs) a b (take 65 rows) low (omega arith)) ∙ puts.0, puts.1, puts.2)
 
-pub few_rows : (p : Pen) (xs : List ℕ) (a b : ℕ) (rows : List ℕ) (q : Pen) (ys : List ℕ) (r : Result ℕ WriteFault) → SizesLow p.tally.variables
-    → PutsEntry p xs (has_constraint (table a b (take (min (length rows) 65) rows))) q ys r → PutsEntry p xs (has_constraint (table a b rows)) q ys r
-few_rows p xs a b rows q ys r low puts = ⊎_elim fewer more (cases_lt (length rows) 65)
+pub few_rows : (p : Pen) (xs : List ℕ) (a b many : ℕ) (rows : List ℕ) (q : Pen) (ys : List ℕ) (r : Result ℕ WriteFault) → SizesLow p.tally.variables → many ≡ min (length rows) 65
+    → PutsEntry p xs (has_constraint (table a b (take many rows))) q ys r → PutsEntry p xs (has_constraint (table a b rows)) q ys r
+few_rows p xs a b many rows q ys r low e puts = ⊎_elim fewer more (cases_lt (length rows) 65)
   where
     fewer : length rows < 65 → PutsEntry p xs (has_constraint (table a b rows)) q ys r
     fewer l =
-        let n : min (length rows) 65 ≡ length rows = omega arith in
+        let n : many ≡ length rows = omega arith in
         subst (λ rs. PutsEntry p xs (has_constraint (table a b rs)) q ys r) (ap (λ k. take k rows) n ∙ take-length rows) puts
 
     more : 65 ≤ length rows → PutsEntry p xs (has_constraint (table a b rows)) q ys r
     more l =
-        let n : min (length rows) 65 ≡ 65 = omega arith in
+        let n : many ≡ 65 = omega arith in
         same_refusal p xs a b rows q ys r low l (subst (λ k. PutsEntry p xs (has_constraint (table a b (take k rows))) q ys r) n puts)
