@@ -2,7 +2,7 @@
 use Rattle.std.specs.Prelude.{◌≡◌, ℕ, zero, suc, ◌+◌, ◌≤◌, List, [], ◌∷◌, ◌++◌, map, length}
 use Rattle.std.specs.List.{flat_map, AllByRecursion}
 use Rattle.sheet_format.specs.declared.found.Variable.{Variable}
-use Rattle.sheet_format.specs.Value.{Constraint, Move, ValidVariable, HousesDiffer, ValidConstraint, ValidMove}
+use Rattle.sheet_format.specs.Value.{Constraint, Move, Sheet, ValidVariable, HousesDiffer, ValidConstraint, ValidMove}
 use Rattle.sheet_format.specs.Encoding.{Raw, framed, heading_record, variable_record, constraint_record, move_record}
 use Rattle.sheet_format.specs.Verdict.{Tally}
 
@@ -57,3 +57,7 @@ unmoved b = begun_of b.n b.variables b.constraints
 abbrev pub begun_tally : Begun → Tally
 begun_tally b =
     record { n = b.n; variables = b.variables; constraints = length b.constraints; moves = length b.moves; reached = length (bytes_begun (unmoved b)) }
+
+-- the sheet that a beginning says, if the end follows
+abbrev pub sheet_said : Begun → Sheet
+sheet_said b = record { variables = b.variables; constraints = b.constraints; moves = b.moves }

@@ -11,3 +11,4 @@ pub mod Rules
 pub mod Law
 pub mod Lines
 pub mod Writing
+pub mod Written

@@ -4,7 +4,7 @@ use Rattle.std.specs.Option.{option_to_list}
 use Rattle.std.specs.List.{flat_map, AllByRecursion}
 use Rattle.std.proofs.lemmas.List.{append_assoc, append-nil, length-append}
 use Rattle.std.proofs.ByRecursion.{All-from_get_or, All-append, All-map, All-weaker}
-use Rattle.std.proofs.lemmas.Bool.{ltb-true, ltb-false}
+use Rattle.std.proofs.lemmas.Bool.{ltb-true, ltb-false, le-ltb, cond-false}
 use Rattle.sheet_format.specs.declared.found.Variable.{Variable}
 use Rattle.sheet_format.specs.declared.found.Summary.{Summary}
 use Rattle.sheet_format.specs.declared.faults.Cause.TheVariants.{TooLong, OutOfTurn}
@@ -14,7 +14,7 @@ use Rattle.sheet_format.specs.Faults.{fault_number, fault_byte, fault_records}
 use Rattle.sheet_format.specs.Value.{Constraint, sum, table, Move, add, retract, Sheet, size_at, ValidVariable, ValidConstraint, ValidMove}
 use Rattle.sheet_format.specs.Encoding.{Raw, framed, heading_record, variable_record, constraint_record, move_record, end_record, records_of, encode, Valid}
 use Rattle.sheet_format.specs.Decoding.{first_record, split, rows_in, as_variable, as_constraint, as_move, gathered, sheet_of, decode}
-use Rattle.sheet_format.specs.Beginnings.{Begun, heading_begun, records_begun, bytes_begun, AllThere, Keeps, nothing_begun, begun_tally}
+use Rattle.sheet_format.specs.Beginnings.{Begun, heading_begun, records_begun, bytes_begun, AllThere, Keeps, nothing_begun, begun_tally, sheet_said}
 use Rattle.sheet_format.specs.Reading.{shows_end}
 use Rattle.sheet_format.specs.Verdict.{Tally, nothing_yet, step, ends, unless, Verdict, format_fault, after_step, walked, verdict}
 use Rattle.sheet_format.specs.Law.{summary_of, Encodes, Refused, too_long, trails, goes_wrong, Law}
@@ -25,7 +25,7 @@ use Rattle.sheet_law.proofs.Walks.{first_step, walked_on, later}
 use Rattle.sheet_law.proofs.Rows.{rows_there}
 use Rattle.sheet_law.proofs.Items.{sum_there}
 use Rattle.sheet_law.proofs.Forward.{size_low, variable_again, begun_reaches}
-use Rattle.sheet_law.proofs.Sheets.{sheet_said, sheet_begun, ended_records, ended_bytes, said_valid, all_begun, sheet_keeps, said_summary}
+use Rattle.sheet_law.proofs.Sheets.{sheet_begun, ended_records, ended_bytes, said_valid, all_begun, sheet_keeps, said_summary}
 use Rattle.sheet_law.proofs.Telling.{Whole, Over, Off, Told, told}
 
 -- framed records, split again
@@ -209,9 +209,9 @@ accepted_law xs z short w =
       sums_up = w.sums_up ∙ said_summary b w.ended.all ∙ ap summary_of (sym back);
     }
 
--- refused bytes encode none
-refused_law : (xs : List ℕ) (f : SheetFault) → walked (suc (length xs)) xs 0 0 nothing_yet ≡ Err f → (s : Sheet) → Valid s → encode s ≡ xs → ⊥
-refused_law xs f e s v same =
+-- the walk accepts what a valid sheet encodes
+encoded_walk : (xs : List ℕ) (s : Sheet) → Valid s → encode s ≡ xs → walked (suc (length xs)) xs 0 0 nothing_yet ≡ Ok (summary_of s)
+encoded_walk xs s v same =
     let b : Begun = sheet_begun s in
     let g : Tally = begun_tally b in
     let all : AllThere b = all_begun s v in
@@ -222,13 +222,21 @@ refused_law xs f e s v same =
     let short : length xs ≤ 65535 = subst (λ ys. length ys ≤ 65535) same v.short in
     let left : suc (length xs) - length (records_begun b) ≡ suc (length xs - length (records_begun b)) = omega arith in
     let turn : step g (shows_end []) (past (length (bytes_begun b)) end_record) ≡ ends = ap (λ t. unless t OutOfTurn ends) (is_complete b all) in
-    clash _ f
-    (sym
-    (walk_after xs (framed end_record) b (suc (length xs)) (sheet_keeps s v) short (omega arith) bytes
+    walk_after xs (framed end_record) b (suc (length xs)) (sheet_keeps s v) short (omega arith) bytes
     ∙ ap (λ m. walked m (framed end_record) (length (bytes_begun b)) (length (records_begun b)) g) left
     ∙ first_step end_record [] g (length (bytes_begun b)) (length (records_begun b)) (length xs - length (records_begun b)) (shows_end []) (record { kind_low = omega arith; length_low = omega arith }) refl
-    ∙ ap (after_step (walked (length xs - length (records_begun b))) g (length (bytes_begun b)) (length (records_begun b)) [] (past (length (bytes_begun b)) end_record)) turn)
-    ∙ e)
+    ∙ ap (after_step (walked (length xs - length (records_begun b))) g (length (bytes_begun b)) (length (records_begun b)) [] (past (length (bytes_begun b)) end_record)) turn
+    ∙ ap Ok (said_summary b all)
+
+-- so the check does
+pub encoded_accepted : (s : Sheet) → Valid s → verdict (encode s) ≡ Ok (summary_of s)
+encoded_accepted s v =
+    cond-false (ltb 65535 (length (encode s))) (format_fault TooLong 65535 0) (walked (suc (length (encode s))) (encode s) 0 0 nothing_yet) (le-ltb 65535 (length (encode s)) v.short)
+    ∙ encoded_walk (encode s) s v refl
+
+-- refused bytes encode none
+refused_law : (xs : List ℕ) (f : SheetFault) → walked (suc (length xs)) xs 0 0 nothing_yet ≡ Err f → (s : Sheet) → Valid s → encode s ≡ xs → ⊥
+refused_law xs f e s v same = clash _ f (sym (encoded_walk xs s v same) ∙ e)
   where
     clash : (z : Summary) (g : SheetFault) → ◌≡◌ {A = Verdict} (Ok z) (Err g) → ⊥
     clash z g h = let y : ◌≡◌ {A = ℕ} 0 1 = cc in omega arith

@@ -14,3 +14,4 @@ pub mod Forward
 pub mod Sheets
 pub mod Telling
 pub mod Laws
+pub mod Growing

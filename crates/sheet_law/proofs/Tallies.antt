@@ -20,7 +20,7 @@ pub same_tally : (n m : ℕ) (vs ws : List Variable) (c d p q r t : ℕ) → n �
     → ◌≡◌ {A = Tally} (record { n = n; variables = vs; constraints = c; moves = p; reached = r }) (record { n = m; variables = ws; constraints = d; moves = q; reached = t })
 same_tally n m vs ws c d p q r t a b e f g = cc
 
-same_begun : (n m : ℕ) (vs ws : List Variable) (cs ds : List Constraint) (ms ns : List Move) → n ≡ m → vs ≡ ws → cs ≡ ds → ms ≡ ns
+pub same_begun : (n m : ℕ) (vs ws : List Variable) (cs ds : List Constraint) (ms ns : List Move) → n ≡ m → vs ≡ ws → cs ≡ ds → ms ≡ ns
     → ◌≡◌ {A = Begun} (record { n = n; variables = vs; constraints = cs; moves = ms }) (record { n = m; variables = ws; constraints = ds; moves = ns })
 same_begun n m vs ws cs ds ms ns a b c d = cc
 
