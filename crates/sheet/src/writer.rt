@@ -1,5 +1,5 @@
 // Writing a sheet, one record at a time, into a buffer that each call is lent.
-ghost use Rattle.std.specs.Prelude.{◌≡◌, ◌+◌, ◌<◌, ◌≤◌, true, false, ◌∷◌, ◌++◌, length, Some};
+ghost use Rattle.std.specs.Prelude.{◌≡◌, ℕ, List, ◌+◌, ◌<◌, ◌≤◌, true, false, ◌∷◌, ◌++◌, length, Some};
 ghost use Rattle.sheet_format.specs.Kinds.{kind_number};
 ghost use Rattle.sheet_format.specs.Value.{sum, table, add, retract};
 ghost use Rattle.sheet_format.specs.Encoding.{framed, heading_record, variable_record, constraint_record};
@@ -8,6 +8,8 @@ ghost use Rattle.std.specs.List.{flat_map};
 ghost use Rattle.arrayvec.specs.ArrayVec.{array_vec_len};
 ghost use Rattle.std.proofs.Common.{of_z};
 ghost use Rattle.std.specs.Int.{w16, w32};
+ghost use Rattle.sheet_format.specs.Beginnings.{Begun, nothing_begun};
+ghost use Rattle.sheet_format.specs.Written.{Written, Grows};
 ghost use Rattle.sheet_format.specs.Reading.{Shown, shown};
 ghost use Rattle.sheet.specs.Sizes.{SizesLow};
 ghost use Rattle.sheet_format.specs.Writing.{Pen, new_pen, heads, has_variable, has_constraint, has_move, ends_here, lies_in, laid, Puts, PutsEntry, Abandons};
@@ -160,7 +162,8 @@ fn table_body(left: u8, right: u8, rows: &[u64]) -> ArrayVec<u8, 522>
 impl Writer {
     // A writer that has written nothing.
     pub fn new() -> Writer
-        ensures { result ≡ new_pen }
+        ensures call { result ≡ new_pen }
+        ensures written { (xs : List ℕ) → Written nothing_begun result xs }
     {
         Writer {
             progress: Progress::new(),
@@ -191,14 +194,16 @@ impl Writer {
     }
     // Writes the heading: the start word 1, and how many variables follow. Like each call, it answers the place reached.
     pub fn heading(&mut self, buffer: &mut [u8], n: u16) -> Result<usize, WriteFault>
-        ensures { PutsEntry self.old buffer.old (heads n) self.new buffer.new result }
+        ensures call { PutsEntry self.old buffer.old (heads n) self.new buffer.new result }
+        ensures written { (b : Begun) → Written b self.old buffer.old → Grows b (heads n) self.new buffer.new result }
     {
         self.put(buffer, Kind::Heading, &heading_body(n))
     }
 
     // Writes a variable.
     pub fn variable(&mut self, buffer: &mut [u8], variable: Variable) -> Result<usize, WriteFault>
-        ensures { PutsEntry self.old buffer.old (has_variable variable) self.new buffer.new result }
+        ensures call { PutsEntry self.old buffer.old (has_variable variable) self.new buffer.new result }
+        ensures written { (b : Begun) → Written b self.old buffer.old → Grows b (has_variable variable) self.new buffer.new result }
     {
         self.put(buffer, Kind::Variable, &variable_body(variable))
     }
@@ -211,7 +216,8 @@ impl Writer {
         right: u8,
         formula: Formula,
     ) -> Result<usize, WriteFault>
-        ensures { PutsEntry self.old buffer.old (has_constraint (sum left right formula.m formula.k formula.lo formula.hi)) self.new buffer.new result }
+        ensures call { PutsEntry self.old buffer.old (has_constraint (sum left right formula.m formula.k formula.lo formula.hi)) self.new buffer.new result }
+        ensures written { (b : Begun) → Written b self.old buffer.old → Grows b (has_constraint (sum left right formula.m formula.k formula.lo formula.hi)) self.new buffer.new result }
     {
         self.put(buffer, Kind::Sum, &sum_body(left, right, formula))
     }
@@ -225,7 +231,8 @@ impl Writer {
         right: u8,
         rows: &[u64],
     ) -> Result<usize, WriteFault>
-        ensures { PutsEntry self.old buffer.old (has_constraint (table left right rows.now)) self.new buffer.new result }
+        ensures call { PutsEntry self.old buffer.old (has_constraint (table left right rows.now)) self.new buffer.new result }
+        ensures written { (b : Begun) → Written b self.old buffer.old → Grows b (has_constraint (table left right rows.now)) self.new buffer.new result }
     {
         let _ = &self.place;
         let body = table_body(left, right, &rows[..rows.len().min(65)]);
@@ -234,21 +241,24 @@ impl Writer {
 
     // Writes a move that adds the constraint at an index.
     pub fn add(&mut self, buffer: &mut [u8], index: u16) -> Result<usize, WriteFault>
-        ensures { PutsEntry self.old buffer.old (has_move (add index)) self.new buffer.new result }
+        ensures call { PutsEntry self.old buffer.old (has_move (add index)) self.new buffer.new result }
+        ensures written { (b : Begun) → Written b self.old buffer.old → Grows b (has_move (add index)) self.new buffer.new result }
     {
         self.put(buffer, Kind::Add, &index_body(index))
     }
 
     // Writes a move that retracts the constraint at an index.
     pub fn retract(&mut self, buffer: &mut [u8], index: u16) -> Result<usize, WriteFault>
-        ensures { PutsEntry self.old buffer.old (has_move (retract index)) self.new buffer.new result }
+        ensures call { PutsEntry self.old buffer.old (has_move (retract index)) self.new buffer.new result }
+        ensures written { (b : Begun) → Written b self.old buffer.old → Grows b (has_move (retract index)) self.new buffer.new result }
     {
         self.put(buffer, Kind::Retract, &index_body(index))
     }
 
     // Writes the end. The sheet is whole, and the writer may be let go.
     pub fn end(&mut self, buffer: &mut [u8]) -> Result<usize, WriteFault>
-        ensures { PutsEntry self.old buffer.old ends_here self.new buffer.new result }
+        ensures call { PutsEntry self.old buffer.old ends_here self.new buffer.new result }
+        ensures written { (b : Begun) → Written b self.old buffer.old → Grows b ends_here self.new buffer.new result }
     {
         self.put(buffer, Kind::End, &[])
     }

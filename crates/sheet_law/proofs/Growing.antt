@@ -23,7 +23,7 @@ use Rattle.sheet_law.proofs.Rows.{rows_there}
 use Rattle.sheet_law.proofs.Items.{sum_back}
 use Rattle.sheet_law.proofs.Extending.{said_with, Extends, extends}
 use Rattle.sheet_law.proofs.Sheets.{ended_bytes, said_valid}
-use Rattle.sheet_law.proofs.Laws.{decode-encode, encoded_accepted}
+use Rattle.sheet_law.proofs.Laws.{decode-encode, encoded_accepted, nothing_keeps}
 
 -- the bytes up to the end of those laid down
 take_laid : (place : ℕ) (bytes xs : List ℕ) → place ≤ length xs → take (place + length bytes) (laid place bytes xs) ≡ take place xs ++ bytes
@@ -176,3 +176,7 @@ module _ (b : Begun) (p : Pen) (xs : List ℕ) (w : Written b p xs) (q : Pen) (y
 pub grows : (b : Begun) (p : Pen) (xs : List ℕ) (q : Pen) (ys : List ℕ) (e : Entry) (r : Result ℕ WriteFault) → Fields e → Written b p xs → PutsEntry p xs e q ys r → Grows b e q ys r
 grows b p xs q ys e (Ok place) f w puts = grown b p xs w q ys place e f puts
 grows b p xs q ys e (Err fault) f w puts = subst (λ z. Written b z ys) (sym puts.1) (subst (λ zs. Written b p zs) (sym puts.2) w)
+
+-- a writer that has written nothing
+pub nothing_written : (xs : List ℕ) → Written nothing_begun new_pen xs
+nothing_written xs = record { keeps = nothing_keeps; tallied = refl; reached = refl; bytes = refl }

@@ -278,22 +278,23 @@ why_law xs f short e (inr o) =
       wrong = o.wrong;
     })
 
+-- nothing keeps every rule
+pub nothing_keeps : Keeps nothing_begun
+nothing_keeps =
+    record {
+      n_low = omega arith;
+      few_variables = omega arith;
+      variables_valid = tt;
+      houses_differ = λ i j l. absurd (omega arith);
+      in_turn = λ l. absurd (omega arith);
+      few_constraints = omega arith;
+      constraints_valid = tt;
+      moves_valid = tt;
+    }
+
 law : (xs : List ℕ) → Bytes xs → Law xs (verdict xs)
 law xs b = sized (ltb 65535 (length xs)) refl
   where
-    nothing_keeps : Keeps nothing_begun
-    nothing_keeps =
-        record {
-          n_low = omega arith;
-          few_variables = omega arith;
-          variables_valid = tt;
-          houses_differ = λ i j l. absurd (omega arith);
-          in_turn = λ l. absurd (omega arith);
-          few_constraints = omega arith;
-          constraints_valid = tt;
-          moves_valid = tt;
-        }
-
     by_walk : (r : Verdict) → length xs ≤ 65535 → walked (suc (length xs)) xs 0 0 nothing_yet ≡ r → Told xs r → Law xs r
     by_walk (Ok z) short e t = accepted_law xs z short t
     by_walk (Err f) short e t = record { no_sheet = refused_law xs f e; why = why_law xs f short e t }
