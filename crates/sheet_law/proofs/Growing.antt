@@ -180,3 +180,11 @@ grows b p xs q ys e (Err fault) f w puts = subst (λ z. Written b z ys) (sym put
 -- a writer that has written nothing
 pub nothing_written : (xs : List ℕ) → Written nothing_begun new_pen xs
 nothing_written xs = record { keeps = nothing_keeps; tallied = refl; reached = refl; bytes = refl }
+
+-- an end that is put closes the writer
+pub end_closes : (p : Pen) (size : ℕ) (q : Pen) → put p size (entry_shown ends_here p.place) (length (framed (entry_record ends_here))) ≡ Ok q → q.is_open ≡ false
+end_closes p size q e = by (by_step p size (p.place + 4) (step p.tally (entry_shown ends_here p.place) (p.place + 4)) q (was_open p.is_open _ q e))
+  where
+    by : Put p size (p.place + 4) (step p.tally (entry_shown ends_here p.place) (p.place + 4)) q → q.is_open ≡ false
+    by (put_on h s made fits) = absurd (goes_held p.tally (entry_shown ends_here p.place) (p.place + 4) h s)
+    by (put_end s made fits) = ap (λ z. z.is_open) made
