@@ -1,5 +1,6 @@
 mod Answered
 pub mod Chunks
+mod Copies
 pub mod Encoded
 mod Entries
 mod Laying

@@ -3,3 +3,4 @@ pub mod Steps
 pub mod Advance
 pub mod Sums
 pub mod Sizes
+pub mod Copying

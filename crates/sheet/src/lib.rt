@@ -4,6 +4,7 @@
 mod accepted;
 mod bodies;
 mod checking;
+mod copying;
 mod formula;
 mod progress;
 mod reader;
@@ -11,6 +12,7 @@ mod writer;
 
 pub use accepted::Accepted;
 pub use checking::check;
+pub use copying::{RewriteFault, rewrite};
 pub use formula::Formula;
 pub use reader::{Part, Record, read_record};
 pub use writer::Writer;

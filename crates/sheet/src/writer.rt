@@ -173,7 +173,12 @@ impl Writer {
     }
 
     // a record of a kind, which is judged as the check judges what the reader takes off
-    fn put(&mut self, buffer: &mut [u8], kind: Kind, body: &[u8]) -> Result<usize, WriteFault>
+    pub(crate) fn put(
+        &mut self,
+        buffer: &mut [u8],
+        kind: Kind,
+        body: &[u8],
+    ) -> Result<usize, WriteFault>
         ensures { (s : Shown) → shown (kind_number kind) body.now self.old.place ≡ Some s → Puts self.old buffer.old s (framed (record { kind = kind_number kind; body = body.now })) self.new buffer.new result }
     {
         if !self.is_open {

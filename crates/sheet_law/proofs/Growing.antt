@@ -12,6 +12,7 @@ use Rattle.sheet_format.specs.Value.{Constraint, sum, table, Move, add, retract,
 use Rattle.sheet_format.specs.Encoding.{Raw, framed, variable_record, end_record, encode, Valid}
 use Rattle.sheet_format.specs.Decoding.{rows_in, decode}
 use Rattle.sheet_format.specs.Beginnings.{Begun, records_begun, bytes_begun, AllThere, Keeps, nothing_begun, begun_tally, sheet_said}
+use Rattle.sheet_format.specs.Reading.{Shown}
 use Rattle.sheet_format.specs.Verdict.{Tally, Step, goes, ends, stops, step, variable_of, verdict}
 use Rattle.sheet_format.specs.Writing.{Entry, heads, has_variable, has_constraint, has_move, ends_here, entry_record, entry_shown, Pen, new_pen, lies_in, put_step, put, laid, PutsEntry}
 use Rattle.sheet_format.specs.Written.{begun_with, Written, Whole, Grown, Grows, Fields}
@@ -34,14 +35,14 @@ take_laid place bytes xs l =
     ∙ take_at (take place xs ++ bytes) (drop (place + length bytes) xs) (place + length bytes) (omega arith)
 
 -- what lies in a buffer
-lies_is : (size after : ℕ) → lies_in size after ≡ true → (after ≤ size) × (after ≤ 65535)
+pub lies_is : (size after : ℕ) → lies_in size after ≡ true → (after ≤ size) × (after ≤ 65535)
 lies_is size after e = let p = and_parts _ _ e in (ltb-false size after (not-true _ p.0), ltb-false 65535 after (not-true _ p.1))
 
 lies_low : (size place long more : ℕ) → lies_in size (place + long + more) ≡ true → place ≤ size
 lies_low size place long more e = let p = lies_is size (place + long + more) e in omega (arith, p.0)
 
 -- the step of a record that was put, and what it makes of the writer
-data Put (p : Pen) (size after : ℕ) (st : Step) (q : Pen) : Type 0 where
+pub data Put (p : Pen) (size after : ℕ) (st : Step) (q : Pen) : Type 0 where
   put_on : (h : Tally) → st ≡ goes h → q ≡ record { tally = h; place = after; is_open = true } → lies_in size (after + 4) ≡ true → Put p size after st q
   put_end : st ≡ ends → q ≡ record { tally = p.tally; place = after; is_open = false } → lies_in size after ≡ true → Put p size after st q
 
@@ -57,6 +58,9 @@ by_step p size after (stops cause) q e = absurd (let z : ◌≡◌ {A = ℕ} 0 1
 was_open : (t : Bool) (r : Result Pen WriteFault) (q : Pen) → cond t r (Err Closed) ≡ Ok q → r ≡ Ok q
 was_open true r q e = e
 was_open false r q e = absurd (let z : ◌≡◌ {A = ℕ} 0 1 = cc in omega arith)
+
+pub put_is : (p : Pen) (size : ℕ) (s : Shown) (long : ℕ) (q : Pen) → put p size s long ≡ Ok q → Put p size (p.place + long) (step p.tally s (p.place + long)) q
+put_is p size s long q e = by_step p size (p.place + long) (step p.tally s (p.place + long)) q (was_open p.is_open _ q e)
 
 -- the record of an entry: its kind and body, its bytes, and what they say
 entry_kind : (e : Entry) (place : ℕ) → KindIs (entry_record e).kind (entry_record e).body (entry_shown e place)
