@@ -1,11 +1,10 @@
 -- One record more of a sheet that is put into a buffer.
-use Rattle.std.proofs.Common.{◌≡◌, ℕ, zero, suc, ◌+◌, ◌-◌, ◌<◌, ◌≤◌, Bool, true, false, cond, not, ◌&&◌, eqb, ltb, List, [], ◌∷◌, ◌++◌, length, take, drop, Some, Ok, Err, Result, sym, refl, ap, ◌∙◌, subst, ⊎_elim, inl, inr, ◌⊎◌, arith}
+use Rattle.std.proofs.Common.{◌≡◌, ℕ, zero, suc, ◌+◌, ◌-◌, ◌<◌, ◌≤◌, Bool, true, false, cond, not, ◌&&◌, eqb, ltb, List, [], ◌++◌, length, take, drop, Some, Ok, Err, Result, sym, refl, ap, ◌∙◌, subst, ⊎_elim, inl, inr, ◌⊎◌, arith}
 use Rattle.std.specs.List.{flat_map}
-use Rattle.std.proofs.ByRecursion.{All-from_get_or, All-drop}
+use Rattle.std.proofs.ByRecursion.{All-drop}
 use Rattle.std.proofs.lemmas.List.{append_assoc, append-nil, length-append, length-drop, length-take, nil_from_length}
 use Rattle.std.proofs.lemmas.Bool.{eqb-true, ltb-true, ltb-false}
 use Rattle.sheet_format.specs.declared.found.Summary.{Summary}
-use Rattle.sheet_format.specs.declared.faults.Cause.{Cause}
 use Rattle.sheet_format.specs.declared.faults.Cause.TheVariants.{TooLong, Trailing}
 use Rattle.sheet_format.specs.declared.faults.SheetFault.{SheetFault}
 use Rattle.sheet_format.specs.declared.kinds.Kind.{Kind}
@@ -17,10 +16,10 @@ use Rattle.sheet_format.specs.Kinds.{kind_number}
 use Rattle.sheet_format.specs.Encoding.{Raw, framed}
 use Rattle.sheet_format.specs.Beginnings.{Begun, records_begun, bytes_begun, Keeps, begun_tally, nothing_begun}
 use Rattle.sheet_format.specs.Reading.{Shown, shows_heading, shows_variable, shows_sum, shows_table, shows_short_table, shows_add, shows_retract, shows_end, shown, Reading, taken, broken, reading}
-use Rattle.sheet_format.specs.Verdict.{Tally, nothing_yet, Step, goes, ends, stops, step, summary, Verdict, format_fault, record_fault, after_step, after_reading, walked, verdict}
+use Rattle.sheet_format.specs.Verdict.{Tally, nothing_yet, Step, goes, ends, stops, step, summary, Verdict, format_fault, after_step, after_reading, walked}
 use Rattle.sheet_format.specs.Writing.{Pen, new_pen, lies_in, put_step, put, laid, Puts}
 use Rattle.sheet_law.proofs.NumberLaws.{Bytes}
-use Rattle.sheet_law.proofs.Framing.{Short, Took, took, Framed, framed_again, framed_first, body_cut}
+use Rattle.sheet_law.proofs.Framing.{Short, took, Framed, framed_again, framed_first, body_cut}
 use Rattle.sheet_law.proofs.Held.{GoesHeld, goes_held}
 use Rattle.sheet_law.proofs.Shows.{KindIs, kind_is}
 use Rattle.sheet_law.proofs.Tallies.{past, bytes_more, place_more}

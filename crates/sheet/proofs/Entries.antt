@@ -1,11 +1,11 @@
 -- The record of an entry shows what the entry says.
-use Rattle.std.proofs.Common.{◌≡◌, ℕ, List, [], ◌∷◌, ◌++◌, length, Some, Err, Ok, Result, sym, refl, ap, subst, arith}
+use Rattle.std.proofs.Common.{◌≡◌, ℕ, List, ◌∷◌, length, Some, Result, refl, ap, subst, arith}
 use Rattle.std.specs.List.{flat_map}
 use Rattle.std.proofs.lemmas.Bool.{le-ltb, cond-false}
 use Rattle.sheet_format.specs.declared.writing.WriteFault.{WriteFault}
 use Rattle.sheet_format.specs.Numbers.{eight}
 use Rattle.sheet_format.specs.Value.{sum, table, add, retract}
-use Rattle.sheet_format.specs.Encoding.{Raw, framed}
+use Rattle.sheet_format.specs.Encoding.{framed}
 use Rattle.sheet_format.specs.Reading.{Shown, shown}
 use Rattle.sheet_format.specs.Writing.{Entry, heads, has_variable, has_constraint, has_move, ends_here, entry_record, entry_shown, Pen, Puts, PutsEntry}
 

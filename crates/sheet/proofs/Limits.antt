@@ -6,13 +6,13 @@ use Rattle.std.proofs.Math.Seq.{take-length}
 use Rattle.std.proofs.lemmas.List.{length-take-le}
 use Rattle.sheet_format.specs.declared.found.Variable.{Variable}
 use Rattle.sheet_format.specs.declared.faults.Cause.{Cause}
-use Rattle.sheet_format.specs.declared.faults.Cause.TheVariants.{OutOfTurn, TooManyConstraints, WrongLength, BadEnds, BadRow}
+use Rattle.sheet_format.specs.declared.faults.Cause.TheVariants.{TooManyConstraints, WrongLength, BadEnds, BadRow}
 use Rattle.sheet_format.specs.declared.writing.WriteFault.{WriteFault}
 use Rattle.sheet_format.specs.declared.writing.WriteFault.TheVariants.{Format, Closed}
 use Rattle.sheet_format.specs.Numbers.{eight}
 use Rattle.sheet_format.specs.Value.{size_at, table}
 use Rattle.sheet_format.specs.Encoding.{framed}
-use Rattle.sheet_format.specs.Verdict.{Tally, Step, goes, stops, unless, ends_good, rows_good, with_constraint, constraint_step, constraints_due, table_step, step}
+use Rattle.sheet_format.specs.Verdict.{Tally, Step, goes, stops, unless, ends_good, rows_good, with_constraint, constraint_step, constraints_due, step}
 use Rattle.sheet_format.specs.Writing.{Pen, put, put_step, has_constraint, entry_record, entry_shown, PutsEntry}
 use Rattle.sheet.specs.Sizes.{SizesLow}
 

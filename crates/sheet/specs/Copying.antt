@@ -1,5 +1,5 @@
 -- What is put into a buffer of an accepted sheet's records.
-use Rattle.std.specs.Prelude.{◌≡◌, ℕ, ◌<◌, ◌≤◌, true, List, [], ◌++◌, length, Ok, Err, Result}
+use Rattle.std.specs.Prelude.{◌≡◌, ℕ, ◌<◌, ◌≤◌, List, ◌++◌, length, Ok, Err, Result}
 use Rattle.sheet_format.specs.declared.found.Summary.{Summary}
 use Rattle.sheet_format.specs.declared.kinds.Kind.{Kind}
 use Rattle.sheet_format.specs.declared.writing.WriteFault.{WriteFault}

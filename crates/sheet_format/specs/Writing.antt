@@ -1,5 +1,5 @@
 -- What a writer of sheets puts down, and what each of its calls does to it and to the buffer.
-use Rattle.std.specs.Prelude.{◌≡◌, ℕ, ◌+◌, Bool, true, false, cond, not, ◌&&◌, List, [], ◌∷◌, ◌++◌, length, take, drop, Ok, Err, Result, nat_lt}
+use Rattle.std.specs.Prelude.{◌≡◌, ℕ, ◌+◌, Bool, true, false, cond, not, ◌&&◌, List, [], ◌++◌, length, take, drop, Ok, Err, Result, nat_lt}
 use Rattle.std.specs.List.{flat_map}
 use Rattle.sheet_format.specs.declared.found.Variable.{Variable}
 use Rattle.sheet_format.specs.declared.writing.WriteFault.{WriteFault}

@@ -3,7 +3,7 @@ use Rattle.std.specs.Prelude.{◌≡◌, ℕ, ◌^◌, ◌<◌, List, [], ◌∷
 use Rattle.std.specs.Int.{w16, w32}
 use Rattle.std.specs.List.{AllByRecursion}
 use Rattle.sheet_format.specs.declared.writing.WriteFault.{WriteFault}
-use Rattle.sheet_format.specs.Value.{Constraint, sum, table, Move, add, retract}
+use Rattle.sheet_format.specs.Value.{sum, table, add, retract}
 use Rattle.sheet_format.specs.Encoding.{encode, Valid}
 use Rattle.sheet_format.specs.Decoding.{decode}
 use Rattle.sheet_format.specs.Beginnings.{Begun, bytes_begun, Keeps, begun_tally, sheet_said}

@@ -1,17 +1,16 @@
 -- What the call of a writer makes of the beginning of a sheet that it has written.
-use Rattle.std.proofs.Common.{◌≡◌, ℕ, ◌+◌, ◌*◌, ◌/◌, ◌%◌, ◌^◌, ◌<◌, ◌≤◌, Bool, true, false, cond, not, ltb, List, [], ◌∷◌, ◌++◌, length, take, drop, Some, Ok, Err, Result, sym, refl, ap, ◌∙◌, subst, arith, of_z, w16, w32}
-use Rattle.std.specs.Option.{option_to_list}
-use Rattle.std.specs.List.{flat_map, AllByRecursion}
+use Rattle.std.proofs.Common.{◌≡◌, ℕ, ◌+◌, ◌*◌, ◌/◌, ◌%◌, ◌<◌, ◌≤◌, Bool, true, false, cond, List, [], ◌∷◌, ◌++◌, length, take, drop, Ok, Err, Result, sym, refl, ap, ◌∙◌, subst, arith, of_z, w16, w32}
+use Rattle.std.specs.List.{flat_map}
 use Rattle.std.proofs.lemmas.List.{append_assoc, append-nil, length-append, length-take-le, take_at}
 use Rattle.std.proofs.lemmas.Bool.{ltb-false, and_parts, not-true}
 use Rattle.sheet_format.specs.declared.found.Variable.{Variable}
 use Rattle.sheet_format.specs.declared.writing.WriteFault.{WriteFault}
 use Rattle.sheet_format.specs.declared.writing.WriteFault.TheVariants.{NoRoom, Closed}
 use Rattle.sheet_format.specs.Numbers.{two, four, eight, number2}
-use Rattle.sheet_format.specs.Value.{Constraint, sum, table, Move, add, retract, Sheet}
+use Rattle.sheet_format.specs.Value.{sum, table, add, retract}
 use Rattle.sheet_format.specs.Encoding.{Raw, framed, variable_record, end_record, encode, Valid}
 use Rattle.sheet_format.specs.Decoding.{rows_in, decode}
-use Rattle.sheet_format.specs.Beginnings.{Begun, records_begun, bytes_begun, AllThere, Keeps, nothing_begun, begun_tally, sheet_said}
+use Rattle.sheet_format.specs.Beginnings.{Begun, records_begun, bytes_begun, AllThere, nothing_begun, begun_tally, sheet_said}
 use Rattle.sheet_format.specs.Reading.{Shown}
 use Rattle.sheet_format.specs.Verdict.{Tally, Step, goes, ends, stops, step, variable_of, verdict}
 use Rattle.sheet_format.specs.Writing.{Entry, heads, has_variable, has_constraint, has_move, ends_here, entry_record, entry_shown, Pen, new_pen, lies_in, put_step, put, laid, PutsEntry}

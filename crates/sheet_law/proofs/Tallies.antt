@@ -7,7 +7,7 @@ use Rattle.std.proofs.lemmas.Bool.{ltb-true, ltb-false, eqb-true, and_parts, and
 use Rattle.sheet_format.specs.declared.found.Variable.{Variable}
 use Rattle.sheet_format.specs.Value.{Constraint, Move}
 use Rattle.sheet_format.specs.Encoding.{Raw, framed, heading_record}
-use Rattle.sheet_format.specs.Beginnings.{Begun, heading_begun, bytes_begun, AllThere, Keeps, begun_of, nothing_begun, unmoved, begun_tally}
+use Rattle.sheet_format.specs.Beginnings.{Begun, heading_begun, AllThere, Keeps, begun_of, nothing_begun, unmoved, begun_tally}
 use Rattle.sheet_format.specs.Rules.{ConstraintDue}
 use Rattle.sheet_format.specs.Verdict.{Tally, complete, constraints_due}
 use Rattle.sheet_law.proofs.Framing.{framed-length}

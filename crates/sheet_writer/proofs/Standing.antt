@@ -1,11 +1,10 @@
 -- What one call more makes of what stands in the buffer, and of a list of calls.
-use Rattle.std.proofs.Common.{◌≡◌, ℕ, ◌+◌, Bool, true, false, cond, ◌||◌, List, [], ◌∷◌, ◌++◌, length, take, Some, None, Option, Ok, Err, Result, sym, refl, ap, ◌∙◌, subst, arith}
+use Rattle.std.proofs.Common.{◌≡◌, ℕ, ◌+◌, Bool, true, false, cond, ◌||◌, List, [], ◌∷◌, ◌++◌, length, take, Some, None, Ok, Err, Result, sym, refl, ap, ◌∙◌, subst, arith}
 use Rattle.std.proofs.lemmas.List.{append_assoc, append-nil}
 use Rattle.sheet_format.specs.declared.writing.WriteFault.{WriteFault}
 use Rattle.sheet_format.specs.declared.writing.WriteFault.TheVariants.{Closed}
 use Rattle.sheet_format.specs.Beginnings.{Begun, nothing_begun}
-use Rattle.sheet_format.specs.Writing.{Entry, heads, has_variable, has_constraint, has_move, ends_here, entry_record, entry_shown, Pen, closed, put, PutsEntry, Abandons}
-use Rattle.sheet_format.specs.Encoding.{framed}
+use Rattle.sheet_format.specs.Writing.{Entry, heads, has_variable, has_constraint, has_move, ends_here, Pen, closed, PutsEntry, Abandons}
 use Rattle.sheet_format.specs.Written.{begun_with, Written, Whole, Grown, Grows}
 use Rattle.sheet_law.proofs.Growing.{end_closes}
 use Rattle.sheet_writer.specs.declared.calls.Call.{Call}

@@ -1,4 +1,4 @@
-use Rattle.std.proofs.Common.{◌≡◌, ◌+◌, ◌<◌, length, arith, rules}
+use Rattle.std.proofs.Common.{◌<◌, length, rules}
 use Rattle.std.proofs.lemmas.Grind.{take_at_read}
 use Rattle.sheet_format.specs.Writing.{new_pen}
 use Rattle.sheet_writer.specs.declared.calls.Call.TheVariants.{Heading}

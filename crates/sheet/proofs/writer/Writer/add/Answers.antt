@@ -1,4 +1,4 @@
-use Rattle.std.proofs.Common.{arith, rules}
+use Rattle.std.proofs.Common.{arith}
 use Rattle.sheet_format.specs.Value.{add}
 use Rattle.sheet_format.specs.Writing.{has_move, PutsEntry}
 use Rattle.sheet_law.proofs.Growing.{grows}

@@ -1,4 +1,4 @@
-use Rattle.std.proofs.Common.{refl, sym, subst, rules}
+use Rattle.std.proofs.Common.{subst, rules}
 use Rattle.sheet_format.specs.Beginnings.{nothing_begun}
 use Rattle.sheet_format.specs.Written.{Written}
 use Rattle.sheet_law.proofs.Growing.{nothing_written}

@@ -1,11 +1,10 @@
-use Rattle.std.proofs.Common.{◌≡◌, ◌+◌, true, not, length, Some, Ok, Err, sym, refl, ap, ◌∙◌, subst, arith, rules}
+use Rattle.std.proofs.Common.{◌≡◌, ◌+◌, not, length, Some, Ok, Err, sym, refl, ◌∙◌, subst, arith, rules}
 use Rattle.sheet_format.specs.declared.writing.WriteFault.TheVariants.{NoRoom}
 use Rattle.sheet_format.specs.Kinds.{kind_number}
 use Rattle.sheet_format.specs.Encoding.{framed}
 use Rattle.sheet_format.specs.Reading.{shown}
 use Rattle.sheet_format.specs.Verdict.{step}
 use Rattle.sheet_format.specs.Writing.{Pen, put}
-use Rattle.sheet.specs.Outcome.{shown_by}
 use Rattle.sheet.specs.Steps.{next_step}
 use Rattle.sheet.proofs.Putting.{same_shown, became_moves, became_low, put_fits, put_no_room}
 use Rattle.sheet.proofs.writer.Writer.put.Goals as goal

@@ -1,4 +1,4 @@
-use Rattle.std.proofs.Common.{arith, rules}
+use Rattle.std.proofs.Common.{rules}
 use Rattle.sheet_format.specs.Value.{sum}
 use Rattle.sheet_format.specs.Writing.{has_constraint, PutsEntry}
 use Rattle.sheet_law.proofs.Growing.{grows}
