@@ -1,19 +1,51 @@
 -- What the methods of the check's progress answer, as steps of the definition.
-use Rattle.std.specs.Prelude.{◌≡◌, ◌<◌, true, Ok, Err, Result}
+use Rattle.std.specs.Prelude.{◌≡◌, ℕ, ◌<◌, ◌≤◌, Bool, true, false, cond, length, Ok, Err, Result}
 use Rattle.std.specs.declared.ops.ControlFlow.{ControlFlow}
 use Rattle.std.specs.declared.ops.ControlFlow.TheVariants.{Continue, Break}
 use Rattle.sheet_format.specs.declared.faults.Cause.{Cause}
 use Rattle.sheet_format.specs.declared.found.Summary.{Summary}
-use Rattle.sheet_format.specs.Verdict.{Tally, Step, goes, ends, stops, summary, constraints_due, constraint_step}
+use Rattle.sheet_format.specs.Verdict.{Tally, Step, goes, ends, stops, summary, constraints_due, constraint_step, with_heading, with_variable, with_constraint, with_move}
+use Rattle.sheet.specs.declared.progress.Next.{Next}
+use Rattle.sheet.specs.declared.progress.Next.TheVariants.{Heading, Variable, Constraint, Move, End}
 
-abbrev pub step_of : Result Tally Cause → Step
-step_of (Ok g) = goes g
-step_of (Err cause) = stops cause
+-- no record comes after it
+abbrev pub is_end : Next → Bool
+is_end (Heading n) = false
+is_end (Variable v) = false
+is_end Constraint = false
+is_end Move = false
+is_end End = true
 
--- the step is the end of this tally's sheet, of which that is the summary, or it stops
-abbrev pub Ended : Tally → Step → Result Summary Cause → Type 0
-Ended g s (Ok found) = (s ≡ ends) × (found ≡ summary g)
-Ended g s (Err cause) = s ≡ stops cause
+-- the bytes to be kept for the end after it
+abbrev pub kept : Next → ℕ
+kept next = cond (is_end next) 0 4
+
+-- what a record that adds this does to a tally, if it ends before a place
+abbrev pub next_step : Tally → ℕ → Next → Step
+next_step g after (Heading n) = goes (with_heading g n after)
+next_step g after (Variable v) = goes (with_variable g v after)
+next_step g after Constraint = goes (with_constraint g after)
+next_step g after Move = goes (with_move g)
+next_step g after End = ends
+
+-- there is room for what is added
+abbrev pub Fits : Tally → Next → Type 0
+Fits g (Heading n) = (n ≤ 32) × (length g.variables ≤ n)
+Fits g (Variable v) = (length g.variables < g.n) × (v.size ≤ 64)
+Fits g Constraint = g.constraints < 96
+Fits g Move = Unit {0}
+Fits g End = Unit {0}
+
+-- the answer is that of these steps, wherever the record ends; what is to be added has room
+abbrev pub Judged : Tally → (ℕ → Step) → Result Next Cause → Type 0
+Judged g steps (Ok next) = ((after : ℕ) → steps after ≡ next_step g after next) × Fits g next
+Judged g steps (Err cause) = (after : ℕ) → steps after ≡ stops cause
+
+-- the tally after a step that does not stop; the end leaves it
+abbrev pub Became : Tally → Step → Tally → Type 0
+Became g (goes next) h = h ≡ next
+Became g ends h = h ≡ g
+Became g (stops cause) h = Unit {0}
 
 -- the step goes on, or is the end of this tally's sheet, or stops
 abbrev pub Flows : Tally → Step → Result (ControlFlow Summary Tally) Cause → Type 0

@@ -4,11 +4,15 @@
 mod accepted;
 mod bodies;
 mod checking;
+mod copying;
 mod formula;
 mod progress;
 mod reader;
+mod writer;
 
 pub use accepted::Accepted;
 pub use checking::check;
+pub use copying::{RewriteFault, rewrite};
 pub use formula::Formula;
 pub use reader::{Part, Record, read_record};
+pub use writer::Writer;

@@ -1,9 +1,9 @@
 // How far the check of a sheet has come, and what one record more does to it.
 ghost use Rattle.std.specs.Prelude.{◌≡◌, ◌+◌, ◌<◌, ◌≤◌, true, length};
 ghost use Rattle.sheet_format.specs.Value.{size_at};
-ghost use Rattle.sheet_format.specs.Verdict.{Tally, complete, constraints_due, nothing_yet, summary, heading_step, variable_step, sum_step, table_step, move_step, end_step, constraint_step, with_constraint, house_good, step};
+ghost use Rattle.sheet_format.specs.Verdict.{Tally, complete, constraints_due, nothing_yet, summary, heading_step, variable_step, sum_step, table_step, move_step, end_step, constraint_step, house_good, step};
 ghost use Rattle.sheet.specs.Outcome.{shown_by};
-ghost use Rattle.sheet.specs.Steps.{step_of, Flows, Ended, Turn};
+ghost use Rattle.sheet.specs.Steps.{is_end, kept, Judged, Fits, next_step, Became, Flows, Turn};
 
 use crate::bodies::{ends_good, house_used, rows_good};
 use crate::formula::Formula;
@@ -23,6 +23,32 @@ pub struct Progress {
     constraints: u32,
     moves: u32,
     reached: u32,
+}
+
+// What a record that passes every test adds: the heading's number of variables, a variable, a constraint, a move, or nothing more.
+#[derive(Clone, Copy)]
+pub(crate) enum Next {
+    Heading(u16),
+    Variable(Variable),
+    Constraint,
+    Move,
+    End,
+}
+
+impl Next {
+    // no record comes after it
+    pub(crate) fn is_end(self) -> bool
+        ensures { result ≡ is_end self }
+    {
+        matches!(self, Next::End)
+    }
+
+    // the bytes to be kept for the end after it
+    pub(crate) fn kept(self) -> usize
+        ensures { result ≡ kept self }
+    {
+        if self.is_end() { 0 } else { 4 }
+    }
 }
 
 impl Model for Progress {
@@ -92,8 +118,8 @@ impl Progress {
     }
 
     // a heading: the start word 1, and a number of variables from 1 to 32
-    fn heading(self, body: &[u8], after: u32) -> Result<Progress, Cause>
-        ensures { step_of result ≡ heading_step self body.now after }
+    fn heading(&self, body: &[u8]) -> Result<Next, Cause>
+        ensures { Judged self.now (heading_step self.now body.now) result }
     {
         if self.n != 0 {
             return Err(Cause::OutOfTurn);
@@ -105,16 +131,12 @@ impl Progress {
         if word(body, 0) != 1 || n < 1 || n > 32 {
             return Err(Cause::BadHeading);
         }
-        Ok(Progress {
-            n: n as usize,
-            reached: after,
-            ..self
-        })
+        Ok(Next::Heading(n))
     }
 
     // a variable: 1 to 64 values, and a house number that is below n and new
-    fn variable(mut self, body: &[u8], after: u32) -> Result<Progress, Cause>
-        ensures { step_of result ≡ variable_step self body.now after }
+    fn variable(&self, body: &[u8]) -> Result<Next, Cause>
+        ensures { Judged self.now (variable_step self.now body.now) result }
     {
         if self.variables.len() >= self.n {
             return Err(Cause::OutOfTurn);
@@ -130,9 +152,7 @@ impl Progress {
         if !self.house_good(house) {
             return Err(Cause::BadHouse);
         }
-        self.variables.push(Variable { size, house });
-        self.reached = after;
-        Ok(self)
+        Ok(Next::Variable(Variable { size, house }))
     }
 
     // a constraint may come here, and is at most the 96th
@@ -148,21 +168,9 @@ impl Progress {
         Ok(())
     }
 
-    // a constraint more
-    fn with_constraint(self, after: u32) -> Progress
-        requires { self.constraints < 96 }
-        ensures { result ≡ with_constraint self after }
-    {
-        Progress {
-            constraints: self.constraints + 1,
-            reached: after,
-            ..self
-        }
-    }
-
     // a sum constraint
-    fn sum(self, body: &[u8], after: u32) -> Result<Progress, Cause>
-        ensures { step_of result ≡ constraint_step self (sum_step self body.now after) }
+    fn sum(&self, body: &[u8]) -> Result<Next, Cause>
+        ensures { Judged self.now (λ after. constraint_step self.now (sum_step self.now body.now after)) result }
     {
         self.constraint_turn()?;
         if body.len() != 14 {
@@ -174,12 +182,12 @@ impl Progress {
         if !Formula::of_body(body).is_good() {
             return Err(Cause::BadSum);
         }
-        Ok(self.with_constraint(after))
+        Ok(Next::Constraint)
     }
 
     // a table constraint with both its ends
-    fn table(self, left: u8, right: u8, rows: &[u8], after: u32) -> Result<Progress, Cause>
-        ensures { step_of result ≡ constraint_step self (table_step self left right rows.now after) }
+    fn table(&self, left: u8, right: u8, rows: &[u8]) -> Result<Next, Cause>
+        ensures { Judged self.now (λ after. constraint_step self.now (table_step self.now left right rows.now after)) result }
     {
         self.constraint_turn()?;
         if !ends_good(self.n, left, right) {
@@ -192,13 +200,12 @@ impl Progress {
         if !rows_good(rows, self.size_at(right as usize)) {
             return Err(Cause::BadRow);
         }
-        Ok(self.with_constraint(after))
+        Ok(Next::Constraint)
     }
 
     // a move: any index
-    fn a_move(self, body: &[u8]) -> Result<Progress, Cause>
-        requires { self.moves < 65536 }
-        ensures { step_of result ≡ move_step self body.now }
+    fn a_move(&self, body: &[u8]) -> Result<Next, Cause>
+        ensures { Judged self.now (λ after. move_step self.now body.now) result }
     {
         if !self.is_complete() {
             return Err(Cause::OutOfTurn);
@@ -206,15 +213,12 @@ impl Progress {
         if body.len() != 2 {
             return Err(Cause::WrongLength);
         }
-        Ok(Progress {
-            moves: self.moves + 1,
-            ..self
-        })
+        Ok(Next::Move)
     }
 
     // the end record: nothing more is due
-    fn ending(&self, body: &[u8]) -> Result<Summary, Cause>
-        ensures { Ended self.now (end_step self.now body.now) result }
+    fn ending(&self, body: &[u8]) -> Result<Next, Cause>
+        ensures { Judged self.now (λ after. end_step self.now body.now) result }
     {
         if !self.is_complete() {
             return Err(Cause::OutOfTurn);
@@ -222,30 +226,66 @@ impl Progress {
         if body.len() != 0 {
             return Err(Cause::WrongLength);
         }
-        Ok(self.summary())
+        Ok(Next::End)
+    }
+
+    // What one record more would add, wherever it ends, or why it is refused.
+    pub(crate) fn judge(&self, taken: Record<'_>) -> Result<Next, Cause>
+        ensures { Judged self.now (step self.now (shown_by taken.entry)) result }
+    {
+        match taken {
+            Record::Heading(body) => self.heading(body),
+            Record::Variable(body) => self.variable(body),
+            Record::Sum(body) => self.sum(body),
+            Record::Table { left, right, rows } => self.table(left, right, rows.bytes),
+            Record::ShortTable(_) => {
+                self.constraint_turn()?;
+                Err(Cause::WrongLength)
+            }
+            Record::Add(body) => self.a_move(body),
+            Record::Retract(body) => self.a_move(body),
+            Record::End(body) => self.ending(body),
+        }
+    }
+
+    // Adds what a record that ends before the byte `after` was judged to add. The end record adds nothing.
+    pub(crate) fn take(&mut self, next: Next, after: u32)
+        requires few { self.old.moves < 65536 }
+        requires fits { Fits self.old next }
+        ensures { Became self.old (next_step self.old after next) self.new }
+    {
+        match next {
+            Next::Heading(n) => {
+                self.n = n as usize;
+                self.reached = after;
+            }
+            Next::Variable(variable) => {
+                self.variables.push(variable);
+                self.reached = after;
+            }
+            Next::Constraint => {
+                self.constraints += 1;
+                self.reached = after;
+            }
+            Next::Move => self.moves += 1,
+            Next::End => {}
+        }
     }
 
     // One record more, which ends before the byte `after` of the sheet. The end record gives what the sheet holds.
     pub(crate) fn admit(
-        self,
+        mut self,
         taken: Record<'_>,
         after: u32,
     ) -> Result<ControlFlow<Summary, Progress>, Cause>
         requires { self.moves < 65536 }
         ensures { Flows self (step self (shown_by taken.entry) after) result }
     {
-        let next = match taken {
-            Record::Heading(body) => self.heading(body, after)?,
-            Record::Variable(body) => self.variable(body, after)?,
-            Record::Sum(body) => self.sum(body, after)?,
-            Record::Table { left, right, rows } => self.table(left, right, rows.bytes, after)?,
-            Record::ShortTable(_) => {
-                self.constraint_turn()?;
-                return Err(Cause::WrongLength);
-            }
-            Record::Add(body) | Record::Retract(body) => self.a_move(body)?,
-            Record::End(body) => return Ok(ControlFlow::Break(self.ending(body)?)),
-        };
-        Ok(ControlFlow::Continue(next))
+        let next = self.judge(taken)?;
+        if let Next::End = next {
+            return Ok(ControlFlow::Break(self.summary()));
+        }
+        self.take(next, after);
+        Ok(ControlFlow::Continue(self))
     }
 }

@@ -46,7 +46,7 @@ fn table_record(body: &[u8], place: u32) -> Record<'_>
 }
 
 // The record of a kind, with a body, that begins at `place`.
-fn record_of(kind: Kind, body: &[u8], place: u32) -> Record<'_>
+pub(crate) fn record_of(kind: Kind, body: &[u8], place: u32) -> Record<'_>
     ensures { shown (kind_number kind) body.now place ≡ Some (shown_by result) }
 {
     match kind {

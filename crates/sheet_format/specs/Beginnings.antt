@@ -2,8 +2,9 @@
 use Rattle.std.specs.Prelude.{◌≡◌, ℕ, zero, suc, ◌+◌, ◌≤◌, List, [], ◌∷◌, ◌++◌, map, length}
 use Rattle.std.specs.List.{flat_map, AllByRecursion}
 use Rattle.sheet_format.specs.declared.found.Variable.{Variable}
-use Rattle.sheet_format.specs.Value.{Constraint, Move, ValidVariable, HousesDiffer, ValidConstraint, ValidMove}
+use Rattle.sheet_format.specs.Value.{Constraint, Move, Sheet, ValidVariable, HousesDiffer, ValidConstraint, ValidMove}
 use Rattle.sheet_format.specs.Encoding.{Raw, framed, heading_record, variable_record, constraint_record, move_record}
+use Rattle.sheet_format.specs.Verdict.{Tally}
 
 -- What the first records of a sheet say: the heading's number of variables (0 where not even the heading is there), and the variables, constraints
 -- and moves after it.
@@ -41,3 +42,22 @@ pub record Keeps (b : Begun) : Type 0 where
   pub few_constraints : length b.constraints ≤ 96
   pub constraints_valid : AllByRecursion (ValidConstraint b.variables) b.constraints
   pub moves_valid : AllByRecursion ValidMove b.moves
+
+abbrev pub begun_of : ℕ → List Variable → List Constraint → Begun
+begun_of n vs cs = record { n = n; variables = vs; constraints = cs; moves = [] }
+
+abbrev pub nothing_begun : Begun
+nothing_begun = begun_of 0 [] []
+
+-- what was there before the moves
+abbrev pub unmoved : Begun → Begun
+unmoved b = begun_of b.n b.variables b.constraints
+
+-- the tally with which the check goes on after a beginning
+abbrev pub begun_tally : Begun → Tally
+begun_tally b =
+    record { n = b.n; variables = b.variables; constraints = length b.constraints; moves = length b.moves; reached = length (bytes_begun (unmoved b)) }
+
+-- the sheet that a beginning says, if the end follows
+abbrev pub sheet_said : Begun → Sheet
+sheet_said b = record { variables = b.variables; constraints = b.constraints; moves = b.moves }

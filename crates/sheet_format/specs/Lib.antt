@@ -10,3 +10,5 @@ pub mod Beginnings
 pub mod Rules
 pub mod Law
 pub mod Lines
+pub mod Writing
+pub mod Written

@@ -1,5 +1,6 @@
 // The kinds of the records.
-ghost use Rattle.sheet_format.specs.Kinds.{Decodes};
+ghost use Rattle.std.specs.Prelude.{◌≡◌};
+ghost use Rattle.sheet_format.specs.Kinds.{Decodes, kind_number};
 
 use crate::faults::RecordCause;
 
@@ -13,6 +14,23 @@ pub enum Kind {
     Add,
     Retract,
     End,
+}
+
+impl Kind {
+    // The number that stands for the kind.
+    pub fn number(self) -> u16
+        ensures { result ≡ kind_number self }
+    {
+        match self {
+            Kind::Heading => 1,
+            Kind::Variable => 2,
+            Kind::Sum => 3,
+            Kind::Table => 4,
+            Kind::Add => 5,
+            Kind::Retract => 6,
+            Kind::End => 7,
+        }
+    }
 }
 
 impl TryFrom<u16> for Kind {

@@ -5,6 +5,7 @@ mod faults;
 mod found;
 mod kinds;
 mod numbers;
+mod writing;
 
 pub use faults::{
     Cause, Counted, Fault, FormatFault, RecordCause, RecordFault, SheetFault, after_records,
@@ -12,3 +13,4 @@ pub use faults::{
 pub use found::{Summary, Variable};
 pub use kinds::Kind;
 pub use numbers::{long, row, word};
+pub use writing::WriteFault;

@@ -10,13 +10,13 @@ use Rattle.sheet_format.specs.Numbers.{number2}
 use Rattle.sheet_format.specs.Kinds.{kind_number}
 use Rattle.sheet_format.specs.Faults.{record_number, fault_number, fault_byte, fault_records}
 use Rattle.sheet_format.specs.Encoding.{Raw}
-use Rattle.sheet_format.specs.Beginnings.{Begun, Keeps}
+use Rattle.sheet_format.specs.Beginnings.{Begun, Keeps, begun_tally}
 use Rattle.sheet_format.specs.Rules.{Stands, CutOff, Wrong, none_left, cut_off, no_kind, breaks_rule}
 use Rattle.sheet_format.specs.Law.{Says}
 use Rattle.sheet_format.specs.Reading.{shown, broken, taken_if, reading}
 use Rattle.sheet_format.specs.Verdict.{Verdict, after_step, after_reading, walked}
 use Rattle.sheet_law.proofs.Framing.{Short, framed_read}
-use Rattle.sheet_law.proofs.Tallies.{past, begun_tally}
+use Rattle.sheet_law.proofs.Tallies.{past}
 use Rattle.sheet_law.proofs.Walks.{first_step, same_fault}
 use Rattle.sheet_law.proofs.Breaking.{OfKind, of_kind}
 

@@ -1,15 +1,16 @@
 -- A record with which the walk goes on makes a longer beginning of a sheet.
-use Rattle.std.proofs.Common.{◌≡◌, ℕ, ◌*◌, ◌<◌, true, false, not, eqb, ltb, List, [], ◌∷◌, ◌++◌, map, length, get_or, sym, refl, ap, ◌∙◌, subst, arith}
+use Rattle.std.proofs.Common.{◌≡◌, ℕ, ◌*◌, ◌/◌, ◌<◌, true, false, cond, not, eqb, ltb, List, [], ◌∷◌, ◌++◌, map, length, get_or, Some, sym, refl, ap, ◌∙◌, subst, arith}
 use Rattle.std.specs.List.{flat_map}
+use Rattle.std.specs.Option.{option_to_list}
 use Rattle.std.proofs.lemmas.List.{append_assoc, append-nil, length-append, map-append}
 use Rattle.std.proofs.ByRecursion.{All-push}
 use Rattle.std.proofs.lemmas.Bool.{ltb-true, eqb-true, and_parts, not-true}
 use Rattle.sheet_format.specs.declared.found.Variable.{Variable}
 use Rattle.sheet_format.specs.Numbers.{two, eight, number2}
-use Rattle.sheet_format.specs.Value.{Constraint, table, Move, add, retract, size_at, ValidVariable, ValidEnds, ValidConstraint, ValidMove}
+use Rattle.sheet_format.specs.Value.{Constraint, sum, table, Move, add, retract, size_at, ValidVariable, ValidEnds, ValidConstraint, ValidMove}
 use Rattle.sheet_format.specs.Encoding.{Raw, framed, heading_record, variable_record, constraint_record, move_record}
-use Rattle.sheet_format.specs.Decoding.{sum_in, rows_in}
-use Rattle.sheet_format.specs.Beginnings.{Begun, heading_begun, records_begun, bytes_begun, AllThere, Keeps}
+use Rattle.sheet_format.specs.Decoding.{sum_in, rows_in, as_variable, as_constraint, as_move}
+use Rattle.sheet_format.specs.Beginnings.{Begun, heading_begun, records_begun, bytes_begun, AllThere, Keeps, begun_of, nothing_begun, unmoved, begun_tally}
 use Rattle.sheet_format.specs.Rules.{ConstraintDue}
 use Rattle.sheet_format.specs.Reading.{Shown, shows_heading, shows_variable, shows_sum, shows_table, shows_short_table, shows_add, shows_retract, shows_end}
 use Rattle.sheet_format.specs.Verdict.{Tally, between, used, ends_good, variable_of, with_constraint, with_move}
@@ -19,7 +20,17 @@ use Rattle.sheet_law.proofs.Shows.{KindIs}
 use Rattle.sheet_law.proofs.Rows.{RowsBack, rows_back}
 use Rattle.sheet_law.proofs.Items.{same_raw, between_is, two_numbers, one_number, ends_valid, sum_again, sum_valid}
 use Rattle.sheet_law.proofs.Houses.{differ_push}
-use Rattle.sheet_law.proofs.Tallies.{past, begun_of, nothing_begun, unmoved, begun_tally, same_tally, place_more, headed, nothing_there, variables_only, no_moves, complete_is, due_is}
+use Rattle.sheet_law.proofs.Tallies.{past, same_tally, same_begun, place_more, headed, nothing_there, variables_only, no_moves, complete_is, due_is}
+
+-- a beginning with what one record more says
+abbrev pub said_with : Begun → Raw → Begun
+said_with b r =
+    record {
+      n = cond (eqb r.kind 1) (number2 r.body 2) b.n;
+      variables = b.variables ++ option_to_list (as_variable r);
+      constraints = b.constraints ++ option_to_list (as_constraint r);
+      moves = b.moves ++ option_to_list (as_move r);
+    }
 
 -- the beginning with one record more, of which the next tally is
 pub record Extends (b : Begun) (r : Raw) (h : Tally) : Type 0 where
@@ -27,6 +38,7 @@ pub record Extends (b : Begun) (r : Raw) (h : Tally) : Type 0 where
   pub keeps : Keeps next
   pub more : records_begun next ≡ records_begun b ++ (r ∷ [])
   pub tallied : h ≡ begun_tally next
+  pub said : next ≡ said_with b r
 
 abbrev here : Begun → ℕ
 here b = length (bytes_begun b)
@@ -61,6 +73,7 @@ heading_extends r body h b kind q =
           };
       more = more;
       tallied = q.result ∙ same_tally _ _ _ _ _ _ _ _ _ _ refl refl refl refl (reached_more nothing_begun n [] [] r more);
+      said = ap (said_with nothing_begun) (sym (same_raw r 1 body kind.0 kind.1));
     }
 
 -- a variable, where no constraint and no move has come
@@ -94,12 +107,31 @@ variable_extends n vs k r body h b kind q =
           };
       more = more;
       tallied = q.result ∙ same_tally _ _ _ _ _ _ _ _ _ _ refl refl refl refl (reached_more (begun_of n vs []) n (vs ++ (v ∷ [])) [] r more);
+      said = ap (said_with (begun_of n vs [])) (sym (same_raw r 2 body kind.0 kind.1));
     }
 
+-- what the record of a constraint and that of a move say
+constraint_said : (n : ℕ) (vs : List Variable) (cs : List Constraint) (r : Raw) (c : Constraint) → r ≡ constraint_record c → as_constraint r ≡ Some c
+    → begun_of n vs (cs ++ (c ∷ [])) ≡ said_with (begun_of n vs cs) r
+constraint_said n vs cs r c raw back = subst (λ x. as_constraint x ≡ Some c → begun_of n vs (cs ++ (c ∷ [])) ≡ said_with (begun_of n vs cs) x) (sym raw) (by c) back
+  where
+    by : (d : Constraint) → as_constraint (constraint_record d) ≡ Some c → begun_of n vs (cs ++ (c ∷ [])) ≡ said_with (begun_of n vs cs) (constraint_record d)
+    by (sum a b m k lo hi) e = same_begun _ _ _ _ _ _ _ _ refl (sym (append-nil vs)) (ap (λ o. cs ++ option_to_list o) (sym e)) refl
+    by (table a b rows) e = same_begun _ _ _ _ _ _ _ _ refl (sym (append-nil vs)) (ap (λ o. cs ++ option_to_list o) (sym e)) refl
+
+move_said : (b : Begun) (r : Raw) (m : Move) → r ≡ move_record m → as_move r ≡ Some m
+    → record { n = b.n; variables = b.variables; constraints = b.constraints; moves = b.moves ++ (m ∷ []) } ≡ said_with b r
+move_said b r m raw back =
+    subst (λ x. as_move x ≡ Some m → record { n = b.n; variables = b.variables; constraints = b.constraints; moves = b.moves ++ (m ∷ []) } ≡ said_with b x) (sym raw) (by m) back
+  where
+    by : (d : Move) → as_move (move_record d) ≡ Some m → record { n = b.n; variables = b.variables; constraints = b.constraints; moves = b.moves ++ (m ∷ []) } ≡ said_with b (move_record d)
+    by (add p) e = same_begun _ _ _ _ _ _ _ _ refl (sym (append-nil b.variables)) (sym (append-nil b.constraints)) (ap (λ o. b.moves ++ option_to_list o) (sym e))
+    by (retract p) e = same_begun _ _ _ _ _ _ _ _ refl (sym (append-nil b.variables)) (sym (append-nil b.constraints)) (ap (λ o. b.moves ++ option_to_list o) (sym e))
+
 -- a constraint, where no move has come
-constraint_extends : (n : ℕ) (vs : List Variable) (cs : List Constraint) → Keeps (begun_of n vs cs) → (r : Raw) (c : Constraint) (h : Tally) → r ≡ constraint_record c
+constraint_extends : (n : ℕ) (vs : List Variable) (cs : List Constraint) → Keeps (begun_of n vs cs) → (r : Raw) (c : Constraint) (h : Tally) → r ≡ constraint_record c → as_constraint r ≡ Some c
     → AllThere (begun_of n vs cs) → length cs < 96 → ValidConstraint vs c → h ≡ with_constraint (begun_tally (begun_of n vs cs)) (past (here (begun_of n vs cs)) r) → Extends (begun_of n vs cs) r h
-constraint_extends n vs cs k r c h raw all few valid e =
+constraint_extends n vs cs k r c h raw back all few valid e =
     let hs : List Raw = heading_begun n in
     let vars : List Raw = map variable_record vs in
     let many = length-append cs (c ∷ []) in
@@ -123,11 +155,12 @@ constraint_extends n vs cs k r c h raw all few valid e =
           };
       more = more;
       tallied = e ∙ same_tally _ _ _ _ _ _ _ _ _ _ refl refl (sym many) refl (reached_more (begun_of n vs cs) n vs (cs ++ (c ∷ [])) r more);
+      said = constraint_said n vs cs r c raw back;
     }
 
 -- a move
-move_extends : (b : Begun) → Keeps b → (r : Raw) (m : Move) (h : Tally) → r ≡ move_record m → AllThere b → ValidMove m → h ≡ with_move (begun_tally b) → Extends b r h
-move_extends b k r m h raw all valid e =
+move_extends : (b : Begun) → Keeps b → (r : Raw) (m : Move) (h : Tally) → r ≡ move_record m → as_move r ≡ Some m → AllThere b → ValidMove m → h ≡ with_move (begun_tally b) → Extends b r h
+move_extends b k r m h raw back all valid e =
     let hs : List Raw = heading_begun b.n in
     let vars : List Raw = map variable_record b.variables in
     let cons : List Raw = map constraint_record b.constraints in
@@ -151,11 +184,15 @@ move_extends b k r m h raw all valid e =
           ∙ ap (λ xs. hs ++ xs) (sym (append_assoc vars (cons ++ map move_record b.moves) (r ∷ [])))
           ∙ sym (append_assoc hs (vars ++ (cons ++ map move_record b.moves)) (r ∷ []));
       tallied = e ∙ same_tally _ _ _ _ _ _ _ _ _ _ refl refl refl (sym many) refl;
+      said = move_said b r m raw back;
     }
 
 -- a move's body: any index of two bytes
 move_is : (r : Raw) (body : List ℕ) → Bytes r.body → r.body ≡ body → eqb (length body) 2 ≡ true → (r.body ≡ two (number2 r.body 0)) × (number2 r.body 0 < 65536)
 move_is r body b e l = one_number r.body b (ap length e ∙ eqb-true (length body) 2 l)
+
+eighths : (n count : ℕ) → n ≡ 8 * count → n / 8 ≡ count
+eighths n count e = omega arith
 
 module _ (b : Begun) (k : Keeps b) (r : Raw) (bytes : Bytes r.body) (h : Tally) where
   at_start : (body : List ℕ) → KindIs r.kind r.body (shows_heading body) → HeadingHeld (begun_tally b) body (past (here b) r) h → Extends b r h
@@ -169,11 +206,11 @@ module _ (b : Begun) (k : Keeps b) (r : Raw) (bytes : Bytes r.body) (h : Tally) 
       subst (λ c. VariableHeld (begun_tally c) body (past (here c) r) h → Extends c r h) (sym same)
       (variable_extends b.n b.variables (subst Keeps same k) r body h bytes kind) q
 
-  at_constraints : (c : Constraint) → r ≡ constraint_record c → ConstraintDue b → length b.constraints < 96 → ValidConstraint b.variables c → h ≡ with_constraint (begun_tally b) (past (here b) r) → Extends b r h
-  at_constraints c raw due few valid e =
+  at_constraints : (c : Constraint) → r ≡ constraint_record c → as_constraint r ≡ Some c → ConstraintDue b → length b.constraints < 96 → ValidConstraint b.variables c → h ≡ with_constraint (begun_tally b) (past (here b) r) → Extends b r h
+  at_constraints c raw back due few valid e =
       let same : b ≡ unmoved b = no_moves b due.no_move in
       subst (λ d. h ≡ with_constraint (begun_tally d) (past (here d) r) → Extends d r h) (sym same)
-      (constraint_extends b.n b.variables b.constraints (subst Keeps same k) r c h raw (subst AllThere same due.variables_there) few valid) e
+      (constraint_extends b.n b.variables b.constraints (subst Keeps same k) r c h raw back (subst AllThere same due.variables_there) few valid) e
 
   pub extends : (s : Shown) → KindIs r.kind r.body s → GoesHeld (begun_tally b) s (past (here b) r) h → Extends b r h
   extends (shows_heading body) kind q = at_start body kind q
@@ -182,7 +219,7 @@ module _ (b : Begun) (k : Keeps b) (r : Raw) (bytes : Bytes r.body) (h : Tally) 
       let at : r.body ≡ body = kind.1 in
       let again = sum_again body (subst Bytes at bytes) (eqb-true (length body) 14 q.1.long) in
       let due : ConstraintDue b = due_is b k q.0.due in
-      at_constraints (sum_in body) (same_raw r 3 (constraint_record (sum_in body)).body kind.0 (at ∙ again.0)) due (ltb-true _ _ q.0.few)
+      at_constraints (sum_in body) (same_raw r 3 (constraint_record (sum_in body)).body kind.0 (at ∙ again.0)) (ap as_constraint (same_raw r 3 body kind.0 at)) due (ltb-true _ _ q.0.few)
       (sum_valid (length b.variables) body (subst (λ m. ends_good m (get_or body 0 0) (get_or body 1 0) ≡ true) (sym due.variables_there.all) q.1.two_ends) q.1.good again.1 again.2)
       q.1.result
   extends (shows_table x y rows at) kind q =
@@ -192,14 +229,16 @@ module _ (b : Begun) (k : Keeps b) (r : Raw) (bytes : Bytes r.body) (h : Tally) 
       let back : RowsBack count size rows = rows_back count size rows (subst Bytes at bytes).1.1 (eqb-true (length rows) (8 * count) q.1.long) q.1.good in
       let due : ConstraintDue b = due_is b k q.0.due in
       at_constraints (table x y (rows_in count rows))
-      (same_raw r 4 (x ∷ (y ∷ flat_map eight (rows_in count rows))) kind.0 (at ∙ ap (λ zs. x ∷ (y ∷ zs)) back.same)) due (ltb-true _ _ q.0.few)
+      (same_raw r 4 (x ∷ (y ∷ flat_map eight (rows_in count rows))) kind.0 (at ∙ ap (λ zs. x ∷ (y ∷ zs)) back.same))
+      (ap as_constraint (same_raw r 4 (x ∷ (y ∷ rows)) kind.0 at) ∙ ap (λ m. Some (table x y (rows_in m rows))) (eighths (length rows) count (eqb-true (length rows) (8 * count) q.1.long)))
+      due (ltb-true _ _ q.0.few)
       (record { ends = subst (λ m. ValidEnds m x y) (sym due.variables_there.all) (ends_valid b.n x y q.1.two_ends); a_row_each = back.many; low_bits = back.low })
       q.1.result
   extends (shows_short_table body) kind q = absurd q
   extends (shows_add body) kind q =
       let m = move_is r body bytes kind.1 q.long in
-      move_extends b k r (add (number2 r.body 0)) h (same_raw r 5 _ kind.0 m.0) (complete_is b k q.due) m.1 q.result
+      move_extends b k r (add (number2 r.body 0)) h (same_raw r 5 _ kind.0 m.0) (ap (λ k. as_move (record { kind = k; body = r.body })) kind.0) (complete_is b k q.due) m.1 q.result
   extends (shows_retract body) kind q =
       let m = move_is r body bytes kind.1 q.long in
-      move_extends b k r (retract (number2 r.body 0)) h (same_raw r 6 _ kind.0 m.0) (complete_is b k q.due) m.1 q.result
+      move_extends b k r (retract (number2 r.body 0)) h (same_raw r 6 _ kind.0 m.0) (ap (λ k. as_move (record { kind = k; body = r.body })) kind.0) (complete_is b k q.due) m.1 q.result
   extends (shows_end body) kind q = absurd q

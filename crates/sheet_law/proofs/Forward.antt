@@ -10,12 +10,12 @@ use Rattle.sheet_format.specs.declared.found.Variable.{Variable}
 use Rattle.sheet_format.specs.Numbers.{two, eight, number2}
 use Rattle.sheet_format.specs.Value.{Constraint, sum, table, Move, add, retract, no_variable, size_at, ValidVariable, HousesDiffer, ValidSum, ValidTable, ValidConstraint, ValidMove}
 use Rattle.sheet_format.specs.Encoding.{Raw, framed, heading_record, variable_record, constraint_record, move_record}
-use Rattle.sheet_format.specs.Beginnings.{Begun, records_begun, Keeps}
+use Rattle.sheet_format.specs.Beginnings.{Begun, records_begun, Keeps, begun_tally}
 use Rattle.sheet_format.specs.Reading.{Shown, shows_heading, shows_variable, shows_sum, shows_table, shows_add, shows_retract, shown}
 use Rattle.sheet_format.specs.Verdict.{Tally, nothing_yet, Step, goes, unless, step, complete, constraints_due, between, used, house_good, ends_good, sum_body_good, rows_good, variable_of, with_move}
 use Rattle.sheet_law.proofs.NumberLaws.{two_back}
 use Rattle.sheet_law.proofs.Framing.{variables_long}
-use Rattle.sheet_law.proofs.Tallies.{past, begun_tally, same_tally, headed, nothing_there}
+use Rattle.sheet_law.proofs.Tallies.{past, same_tally, headed, nothing_there}
 use Rattle.sheet_law.proofs.Walks.{Reaches, past_all, reaches_more}
 use Rattle.sheet_law.proofs.Rows.{rows_there}
 use Rattle.sheet_law.proofs.Items.{is_between, valid_ends, sum_there}

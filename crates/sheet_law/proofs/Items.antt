@@ -104,19 +104,23 @@ factor_fits : (z : ℤ) → negsuc 999 ≤ℤ z → z ≤ℤ pos 1000 → SFits 
 factor_fits (pos n) h k = record { sfits = (let j : n ≤ 1000 = grind (arith, ints) in omega arith) }
 factor_fits (negsuc n) h k = record { sfits = (let j : n ≤ 999 = grind (arith, ints) in omega arith) }
 
+-- a sum whose numbers fit their fields reads back from its body
+pub sum_back : (a b : ℕ) (m k lo hi : ℤ) → SFits w16 m → SFits w16 k → SFits w32 lo → SFits w32 hi
+    → (sum_in (constraint_record (sum a b m k lo hi)).body ≡ sum a b m k lo hi) × (sum_body_good (constraint_record (sum a b m k lo hi)).body ≡ sum_good m k lo hi)
+sum_back a b m k lo hi fm fk fl fh =
+    let em : to_z w16 (number2 (two (of_z w16 m)) 0) ≡ m = ap (to_z w16) (two_back (of_z w16 m) [] (Fits-of_z fm).fits) ∙ to_z-of_z w16 m fm in
+    let ek : to_z w16 (number2 (two (of_z w16 k)) 0) ≡ k = ap (to_z w16) (two_back (of_z w16 k) [] (Fits-of_z fk).fits) ∙ to_z-of_z w16 k fk in
+    let el : to_z w32 (number4 (four (of_z w32 lo)) 0) ≡ lo = ap (to_z w32) (four_back (of_z w32 lo) [] (Fits-of_z fl).fits) ∙ to_z-of_z w32 lo fl in
+    let eh : to_z w32 (number4 (four (of_z w32 hi)) 0) ≡ hi = ap (to_z w32) (four_back (of_z w32 hi) [] (Fits-of_z fh).fits) ∙ to_z-of_z w32 hi fh in
+    let whole : (w x y z : ℤ) → w ≡ m → x ≡ k → y ≡ lo → z ≡ hi → (sum a b w x y z ≡ sum a b m k lo hi) × (sum_good w x y z ≡ sum_good m k lo hi) = λ w x y z p q r s. (cc, cc) in
+    whole _ _ _ _ em ek el eh
+
 -- a valid sum reads back from its body, and passes
 pub sum_there : (n a b : ℕ) (m k lo hi : ℤ) → ValidSum n a b m k lo hi
     → (sum_in (constraint_record (sum a b m k lo hi)).body ≡ sum a b m k lo hi) × (sum_body_good (constraint_record (sum a b m k lo hi)).body ≡ true)
 sum_there n a b m k lo hi v =
-    let fm : SFits w16 m = factor_fits m v.m_low v.m_high in
-    let fk : SFits w16 k = factor_fits k v.k_low v.k_high in
-    let em : to_z w16 (number2 (two (of_z w16 m)) 0) ≡ m = ap (to_z w16) (two_back (of_z w16 m) [] (Fits-of_z fm).fits) ∙ to_z-of_z w16 m fm in
-    let ek : to_z w16 (number2 (two (of_z w16 k)) 0) ≡ k = ap (to_z w16) (two_back (of_z w16 k) [] (Fits-of_z fk).fits) ∙ to_z-of_z w16 k fk in
-    let el : to_z w32 (number4 (four (of_z w32 lo)) 0) ≡ lo = ap (to_z w32) (four_back (of_z w32 lo) [] (Fits-of_z v.lo_fits).fits) ∙ to_z-of_z w32 lo v.lo_fits in
-    let eh : to_z w32 (number4 (four (of_z w32 hi)) 0) ≡ hi = ap (to_z w32) (four_back (of_z w32 hi) [] (Fits-of_z v.hi_fits).fits) ∙ to_z-of_z w32 hi v.hi_fits in
-    let whole : (w x y z : ℤ) → w ≡ m → x ≡ k → y ≡ lo → z ≡ hi → (sum a b w x y z ≡ sum a b m k lo hi) × (sum_good w x y z ≡ sum_good m k lo hi) = λ w x y z p q r s. (cc, cc) in
+    let back = sum_back a b m k lo hi (factor_fits m v.m_low v.m_high) (factor_fits k v.k_low v.k_high) v.lo_fits v.hi_fits in
     let good : sum_good m k lo hi ≡ true =
     and_from _ _ (and_from _ _ (is_le_z (negsuc 999) m v.m_low) (is_le_z m (pos 1000) v.m_high))
     (and_from _ _ (and_from _ _ (is_le_z (negsuc 999) k v.k_low) (is_le_z k (pos 1000) v.k_high)) (is_le_z lo hi v.ordered)) in
-    let both = whole _ _ _ _ em ek el eh in
-    (both.0, both.1 ∙ good)
+    (back.0, back.1 ∙ good)

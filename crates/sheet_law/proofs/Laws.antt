@@ -4,7 +4,7 @@ use Rattle.std.specs.Option.{option_to_list}
 use Rattle.std.specs.List.{flat_map, AllByRecursion}
 use Rattle.std.proofs.lemmas.List.{nil_from_length, append_assoc, append-nil, length-append}
 use Rattle.std.proofs.ByRecursion.{All-from_get_or, All-append, All-map, All-weaker}
-use Rattle.std.proofs.lemmas.Bool.{ltb-true, ltb-false, cond-false, ne_eqb}
+use Rattle.std.proofs.lemmas.Bool.{ltb-true, ltb-false, le-ltb, cond-false, ne_eqb}
 use Rattle.sheet_format.specs.declared.found.Variable.{Variable}
 use Rattle.sheet_format.specs.declared.found.Summary.{Summary}
 use Rattle.sheet_format.specs.declared.faults.Cause.TheVariants.{TooLong, OutOfTurn, Trailing}
@@ -14,18 +14,18 @@ use Rattle.sheet_format.specs.Faults.{fault_number, fault_byte, fault_records}
 use Rattle.sheet_format.specs.Value.{Constraint, sum, table, Move, add, retract, Sheet, size_at, ValidVariable, ValidConstraint, ValidMove}
 use Rattle.sheet_format.specs.Encoding.{Raw, framed, heading_record, variable_record, constraint_record, move_record, end_record, records_of, encode, Valid}
 use Rattle.sheet_format.specs.Decoding.{first_record, split, rows_in, as_variable, as_constraint, as_move, gathered, sheet_of, decode}
-use Rattle.sheet_format.specs.Beginnings.{Begun, heading_begun, records_begun, bytes_begun, AllThere, Keeps}
+use Rattle.sheet_format.specs.Beginnings.{Begun, heading_begun, records_begun, bytes_begun, AllThere, Keeps, nothing_begun, begun_tally, sheet_said}
 use Rattle.sheet_format.specs.Reading.{shows_end}
 use Rattle.sheet_format.specs.Verdict.{Tally, nothing_yet, step, ends, unless, summary, Verdict, format_fault, after_step, walked, verdict}
 use Rattle.sheet_format.specs.Law.{summary_of, Encodes, Says, Refused, too_long, trails, goes_wrong, Law}
 use Rattle.sheet_law.proofs.NumberLaws.{two_back, Bytes}
 use Rattle.sheet_law.proofs.Framing.{Short, framed-length, framed_first}
-use Rattle.sheet_law.proofs.Tallies.{past, nothing_begun, begun_tally, is_complete}
+use Rattle.sheet_law.proofs.Tallies.{past, is_complete}
 use Rattle.sheet_law.proofs.Walks.{first_step, walked_on, no_fault, later}
 use Rattle.sheet_law.proofs.Rows.{rows_there}
 use Rattle.sheet_law.proofs.Items.{sum_there}
 use Rattle.sheet_law.proofs.Forward.{size_low, variable_again, begun_reaches}
-use Rattle.sheet_law.proofs.Sheets.{sheet_said, sheet_begun, ended_records, ended_bytes, said_valid, all_begun, sheet_keeps, said_summary}
+use Rattle.sheet_law.proofs.Sheets.{sheet_begun, ended_records, ended_bytes, said_valid, all_begun, sheet_keeps, said_summary}
 use Rattle.sheet_law.proofs.Alone.{says, wrong_found}
 use Rattle.sheet_law.proofs.Telling.{Whole, Over, Off, Told, told}
 
@@ -234,10 +234,21 @@ walk_over xs more s v short same =
     ∙ ap (λ p. cond (eqb (length more) 0) (Ok (summary g)) (format_fault Trailing p (count + 1))) place
     ∙ ap (λ n. cond (eqb (length more) 0) (Ok (summary g)) (format_fault Trailing (length (encode s)) n)) many
 
+-- the walk accepts what a valid sheet encodes
+encoded_walk : (xs : List ℕ) (s : Sheet) → Valid s → encode s ≡ xs → walked (suc (length xs)) xs 0 0 nothing_yet ≡ Ok (summary_of s)
+encoded_walk xs s v same =
+    walk_over xs [] s v (subst (λ ys. length ys ≤ 65535) same v.short) (sym same ∙ sym (append-nil (encode s)))
+    ∙ ap Ok (said_summary (sheet_begun s) (all_begun s v))
+
+-- so the check does
+pub encoded_accepted : (s : Sheet) → Valid s → verdict (encode s) ≡ Ok (summary_of s)
+encoded_accepted s v =
+    cond-false (ltb 65535 (length (encode s))) (format_fault TooLong 65535 0) (walked (suc (length (encode s))) (encode s) 0 0 nothing_yet) (le-ltb 65535 (length (encode s)) v.short)
+    ∙ encoded_walk (encode s) s v refl
+
 -- refused bytes encode none
 refused_law : (xs : List ℕ) (f : SheetFault) → walked (suc (length xs)) xs 0 0 nothing_yet ≡ Err f → (s : Sheet) → Valid s → encode s ≡ xs → ⊥
-refused_law xs f e s v same =
-    no_fault _ f (sym (walk_over xs [] s v (subst (λ ys. length ys ≤ 65535) same v.short) (sym same ∙ sym (append-nil (encode s)))) ∙ e)
+refused_law xs f e s v same = no_fault _ f (sym (encoded_walk xs s v same) ∙ e)
 
 -- and they are refused for what the fault says
 why_law : (xs : List ℕ) (f : SheetFault) → length xs ≤ 65535 → walked (suc (length xs)) xs 0 0 nothing_yet ≡ Err f
@@ -305,22 +316,23 @@ alone_long xs f long e number byte records (too_long m l p n) =
 alone_long xs f long e number byte records (trails m t) = absurd (let s = t.short in omega arith)
 alone_long xs f long e number byte records (goes_wrong w) = absurd (let s = w.short in omega arith)
 
+-- nothing keeps every rule
+pub nothing_keeps : Keeps nothing_begun
+nothing_keeps =
+    record {
+      n_low = omega arith;
+      few_variables = omega arith;
+      variables_valid = tt;
+      houses_differ = λ i j l. absurd (omega arith);
+      in_turn = λ l. absurd (omega arith);
+      few_constraints = omega arith;
+      constraints_valid = tt;
+      moves_valid = tt;
+    }
+
 law : (xs : List ℕ) → Bytes xs → Law xs (verdict xs)
 law xs b = sized (ltb 65535 (length xs)) refl
   where
-    nothing_keeps : Keeps nothing_begun
-    nothing_keeps =
-        record {
-          n_low = omega arith;
-          few_variables = omega arith;
-          variables_valid = tt;
-          houses_differ = λ i j l. absurd (omega arith);
-          in_turn = λ l. absurd (omega arith);
-          few_constraints = omega arith;
-          constraints_valid = tt;
-          moves_valid = tt;
-        }
-
     by_walk : (r : Verdict) → length xs ≤ 65535 → walked (suc (length xs)) xs 0 0 nothing_yet ≡ r → Told xs r → Law xs r
     by_walk (Ok z) short e t = accepted_law xs z short t
     by_walk (Err f) short e t = record { no_sheet = refused_law xs f e; why = why_law xs f short e t; alone = alone_law xs f short e }

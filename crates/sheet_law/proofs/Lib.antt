@@ -15,3 +15,4 @@ pub mod Sheets
 pub mod Telling
 pub mod Alone
 pub mod Laws
+pub mod Growing

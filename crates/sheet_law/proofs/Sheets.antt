@@ -4,16 +4,13 @@ use Rattle.std.specs.List.{flat_map, AllByRecursion}
 use Rattle.std.proofs.lemmas.List.{append_assoc}
 use Rattle.sheet_format.specs.Value.{Sheet, ValidVariable}
 use Rattle.sheet_format.specs.Encoding.{Raw, framed, heading_record, variable_record, constraint_record, move_record, end_record, records_of, encode, Valid}
-use Rattle.sheet_format.specs.Beginnings.{Begun, heading_begun, records_begun, bytes_begun, AllThere, Keeps}
+use Rattle.sheet_format.specs.Beginnings.{Begun, heading_begun, records_begun, bytes_begun, AllThere, Keeps, begun_tally, sheet_said}
 use Rattle.sheet_format.specs.Verdict.{Tally, summary}
 use Rattle.sheet_format.specs.Law.{summary_of}
-use Rattle.sheet_law.proofs.Tallies.{begun_tally, bytes_more, headed}
+use Rattle.sheet_law.proofs.Tallies.{bytes_more, headed}
 use Rattle.sheet_law.proofs.Forward.{reached_is}
 
--- the sheet that a beginning with the end record is, and the beginning that a sheet is
-abbrev pub sheet_said : Begun → Sheet
-sheet_said b = record { variables = b.variables; constraints = b.constraints; moves = b.moves }
-
+-- the beginning that a sheet is
 abbrev pub sheet_begun : Sheet → Begun
 sheet_begun s = record { n = length s.variables; variables = s.variables; constraints = s.constraints; moves = s.moves }
 

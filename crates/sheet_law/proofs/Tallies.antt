@@ -7,7 +7,7 @@ use Rattle.std.proofs.lemmas.Bool.{ltb-true, ltb-false, eqb-true, and_parts, and
 use Rattle.sheet_format.specs.declared.found.Variable.{Variable}
 use Rattle.sheet_format.specs.Value.{Constraint, Move}
 use Rattle.sheet_format.specs.Encoding.{Raw, framed, heading_record}
-use Rattle.sheet_format.specs.Beginnings.{Begun, heading_begun, bytes_begun, AllThere, Keeps}
+use Rattle.sheet_format.specs.Beginnings.{Begun, heading_begun, AllThere, Keeps, begun_of, nothing_begun, unmoved, begun_tally}
 use Rattle.sheet_format.specs.Rules.{ConstraintDue}
 use Rattle.sheet_format.specs.Verdict.{Tally, complete, constraints_due}
 use Rattle.sheet_law.proofs.Framing.{framed-length}
@@ -16,25 +16,11 @@ use Rattle.sheet_law.proofs.Framing.{framed-length}
 abbrev pub past : ℕ → Raw → ℕ
 past place r = place + (4 + length r.body)
 
-abbrev pub begun_of : ℕ → List Variable → List Constraint → Begun
-begun_of n vs cs = record { n = n; variables = vs; constraints = cs; moves = [] }
-
-abbrev pub nothing_begun : Begun
-nothing_begun = begun_of 0 [] []
-
--- what was there before the moves
-abbrev pub unmoved : Begun → Begun
-unmoved b = begun_of b.n b.variables b.constraints
-
-abbrev pub begun_tally : Begun → Tally
-begun_tally b =
-    record { n = b.n; variables = b.variables; constraints = length b.constraints; moves = length b.moves; reached = length (bytes_begun (unmoved b)) }
-
 pub same_tally : (n m : ℕ) (vs ws : List Variable) (c d p q r t : ℕ) → n ≡ m → vs ≡ ws → c ≡ d → p ≡ q → r ≡ t
     → ◌≡◌ {A = Tally} (record { n = n; variables = vs; constraints = c; moves = p; reached = r }) (record { n = m; variables = ws; constraints = d; moves = q; reached = t })
 same_tally n m vs ws c d p q r t a b e f g = cc
 
-same_begun : (n m : ℕ) (vs ws : List Variable) (cs ds : List Constraint) (ms ns : List Move) → n ≡ m → vs ≡ ws → cs ≡ ds → ms ≡ ns
+pub same_begun : (n m : ℕ) (vs ws : List Variable) (cs ds : List Constraint) (ms ns : List Move) → n ≡ m → vs ≡ ws → cs ≡ ds → ms ≡ ns
     → ◌≡◌ {A = Begun} (record { n = n; variables = vs; constraints = cs; moves = ms }) (record { n = m; variables = ws; constraints = ds; moves = ns })
 same_begun n m vs ws cs ds ms ns a b c d = cc
 

@@ -8,7 +8,7 @@ use Rattle.sheet_format.specs.declared.found.Summary.{Summary}
 use Rattle.sheet_format.specs.declared.faults.Cause.TheVariants.{Trailing}
 use Rattle.sheet_format.specs.Faults.{cause_number, fault_number, fault_byte, fault_records}
 use Rattle.sheet_format.specs.Encoding.{Raw, framed, end_record}
-use Rattle.sheet_format.specs.Beginnings.{Begun, AllThere, Keeps, records_begun, bytes_begun}
+use Rattle.sheet_format.specs.Beginnings.{Begun, AllThere, Keeps, records_begun, bytes_begun, begun_tally}
 use Rattle.sheet_format.specs.Rules.{Wrong, breaks_rule}
 use Rattle.sheet_format.specs.Reading.{Shown, shows_heading, shows_variable, shows_sum, shows_table, shows_short_table, shows_add, shows_retract, shows_end, Reading, taken, broken, reading}
 use Rattle.sheet_format.specs.Verdict.{Tally, Step, goes, ends, stops, step, complete, summary, Verdict, format_fault, after_step, after_reading, walked}
@@ -17,7 +17,7 @@ use Rattle.sheet_law.proofs.Framing.{Took, took, Framed, framed_again, framed-le
 use Rattle.sheet_law.proofs.Held.{goes_held, EndHeld, end_held}
 use Rattle.sheet_law.proofs.Shows.{KindIs, kind_is}
 use Rattle.sheet_law.proofs.Items.{same_raw}
-use Rattle.sheet_law.proofs.Tallies.{past, begun_tally, bytes_more, place_more, complete_is}
+use Rattle.sheet_law.proofs.Tallies.{past, bytes_more, place_more, complete_is}
 use Rattle.sheet_law.proofs.Breaking.{breaks}
 use Rattle.sheet_law.proofs.Unread.{unread}
 use Rattle.sheet_law.proofs.Extending.{Extends, extends}

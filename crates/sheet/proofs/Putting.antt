@@ -1,0 +1,74 @@
+-- What a judged record makes of a writer.
+use Rattle.std.proofs.Common.{◌≡◌, ℕ, ◌+◌, ◌≤◌, Bool, true, false, cond, not, Ok, Err, Result, Some, sym, refl, ap, ◌∙◌, subst, arith}
+use Rattle.sheet_format.specs.declared.writing.WriteFault.{WriteFault}
+use Rattle.sheet_format.specs.declared.writing.WriteFault.TheVariants.{NoRoom, Closed}
+use Rattle.sheet_format.specs.Reading.{Shown}
+use Rattle.sheet_format.specs.Verdict.{Tally, Step, step}
+use Rattle.sheet_format.specs.Writing.{Pen, lies_in, put_step, put}
+use Rattle.sheet.specs.declared.progress.Next.{Next}
+use Rattle.sheet.specs.declared.progress.Next.TheVariants.{Heading, Variable, Constraint, Move, End}
+use Rattle.sheet.specs.Steps.{is_end, kept, next_step, Fits, Became}
+use Rattle.sheet.specs.Sizes.{SizesLow}
+use Rattle.sheet.proofs.Limits.{low_push}
+
+pub same_shown : (s t : Shown) → Some s ≡ Some t → s ≡ t
+same_shown s t e = cc
+
+opened : (p : Pen) (b : Bool) (r s : Result Pen WriteFault) → b ≡ true → r ≡ s → cond b r (Err Closed) ≡ s
+opened p true r s e f = f
+opened p false r s e f = absurd (let z : ◌≡◌ {A = ℕ} 0 1 = cc in omega arith)
+
+-- a record that fits, and one that does not
+room : (b : Bool) (r : Pen) → b ≡ true → ◌≡◌ {A = Result Pen WriteFault} (cond b (Ok r) (Err NoRoom)) (Ok r)
+room true r e = refl
+room false r e = absurd (let z : ◌≡◌ {A = ℕ} 0 1 = cc in omega arith)
+
+no_room : (b : Bool) (r : Pen) → b ≡ false → ◌≡◌ {A = Result Pen WriteFault} (cond b (Ok r) (Err NoRoom)) (Err NoRoom)
+no_room false r e = refl
+no_room true r e = absurd (let z : ◌≡◌ {A = ℕ} 0 1 = cc in omega arith)
+
+fits_step : (p : Pen) (size after : ℕ) (next : Next) (h : Tally) → Became p.tally (next_step p.tally after next) h → lies_in size (after + kept next) ≡ true
+    → put_step p size after (next_step p.tally after next) ≡ Ok (record { tally = h; place = after; is_open = not (is_end next) })
+fits_step p size after (Heading n) h became fits = room _ _ fits ∙ ap (λ g. Ok (record { tally = g; place = after; is_open = true })) (sym became)
+fits_step p size after (Variable v) h became fits = room _ _ fits ∙ ap (λ g. Ok (record { tally = g; place = after; is_open = true })) (sym became)
+fits_step p size after Constraint h became fits = room _ _ fits ∙ ap (λ g. Ok (record { tally = g; place = after; is_open = true })) (sym became)
+fits_step p size after Move h became fits = room _ _ fits ∙ ap (λ g. Ok (record { tally = g; place = after; is_open = true })) (sym became)
+fits_step p size after End h became fits =
+    room (lies_in size after) _ (subst (λ n. lies_in size n ≡ true) (omega arith) fits) ∙ ap (λ g. Ok (record { tally = g; place = after; is_open = false })) (sym became)
+
+no_room_step : (p : Pen) (size after : ℕ) (next : Next) → lies_in size (after + kept next) ≡ false → put_step p size after (next_step p.tally after next) ≡ Err NoRoom
+no_room_step p size after (Heading n) fits = no_room _ _ fits
+no_room_step p size after (Variable v) fits = no_room _ _ fits
+no_room_step p size after Constraint fits = no_room _ _ fits
+no_room_step p size after Move fits = no_room _ _ fits
+no_room_step p size after End fits = no_room (lies_in size after) _ (subst (λ n. lies_in size n ≡ false) (omega arith) fits)
+
+-- at most one move more
+pub became_moves : (g h : Tally) (after : ℕ) (next : Next) → Became g (next_step g after next) h → h.moves ≤ g.moves + 1
+became_moves g h after (Heading n) e = let m = ap (λ t. t.moves) e in omega arith
+became_moves g h after (Variable v) e = let m = ap (λ t. t.moves) e in omega arith
+became_moves g h after Constraint e = let m = ap (λ t. t.moves) e in omega arith
+became_moves g h after Move e = let m = ap (λ t. t.moves) e in omega arith
+became_moves g h after End e = let m = ap (λ t. t.moves) e in omega arith
+
+-- no variable of more than 64 values comes
+pub became_low : (g h : Tally) (after : ℕ) (next : Next) → Became g (next_step g after next) h → Fits g next → SizesLow g.variables → SizesLow h.variables
+became_low g h after (Heading n) e fits low = subst (λ t. SizesLow t.variables) (sym e) low
+became_low g h after (Variable v) e fits low = subst (λ t. SizesLow t.variables) (sym e) (low_push g.variables v low fits.1)
+became_low g h after Constraint e fits low = subst (λ t. SizesLow t.variables) (sym e) low
+became_low g h after Move e fits low = subst (λ t. SizesLow t.variables) (sym e) low
+became_low g h after End e fits low = subst (λ t. SizesLow t.variables) (sym e) low
+
+-- a record of so many bytes, four of them before its body
+module _ (p : Pen) (size body long : ℕ) (s : Shown) (is_open : p.is_open ≡ true) (whole : 4 + body ≡ long) where
+  by_step : (st : Step) (r : Result Pen WriteFault) → step p.tally s (p.place + (4 + body)) ≡ st → put_step p size (p.place + (4 + body)) st ≡ r → put p size s long ≡ r
+  by_step st r judged e =
+      subst (λ n. put p size s n ≡ r) whole (opened p p.is_open _ r is_open (ap (put_step p size (p.place + (4 + body))) judged ∙ e))
+
+  pub put_fits : (next : Next) (h : Tally) (last : Bool) → last ≡ is_end next → step p.tally s (p.place + (4 + body)) ≡ next_step p.tally (p.place + (4 + body)) next → Became p.tally (next_step p.tally (p.place + (4 + body)) next) h
+      → lies_in size (p.place + (4 + body) + kept next) ≡ true → put p size s long ≡ Ok (record { tally = h; place = p.place + (4 + body); is_open = not last })
+  put_fits next h last e judged became fits =
+      by_step _ _ judged (fits_step p size (p.place + (4 + body)) next h became fits ∙ ap (λ b. Ok (record { tally = h; place = p.place + (4 + body); is_open = not b })) (sym e))
+
+  pub put_no_room : (next : Next) → step p.tally s (p.place + (4 + body)) ≡ next_step p.tally (p.place + (4 + body)) next → lies_in size (p.place + (4 + body) + kept next) ≡ false → put p size s long ≡ Err NoRoom
+  put_no_room next judged fits = by_step _ _ judged (no_room_step p size (p.place + (4 + body)) next fits)

@@ -1,0 +1,50 @@
+-- What is put into a buffer of an accepted sheet's records.
+use Rattle.std.specs.Prelude.{◌≡◌, ℕ, ◌<◌, ◌≤◌, List, ◌++◌, length, Ok, Err, Result}
+use Rattle.sheet_format.specs.declared.found.Summary.{Summary}
+use Rattle.sheet_format.specs.declared.kinds.Kind.{Kind}
+use Rattle.sheet_format.specs.declared.writing.WriteFault.{WriteFault}
+use Rattle.sheet_format.specs.declared.writing.WriteFault.TheVariants.{NoRoom}
+use Rattle.sheet_format.specs.Numbers.{number2}
+use Rattle.sheet_format.specs.Kinds.{kind_number}
+use Rattle.sheet_format.specs.Beginnings.{Begun, bytes_begun, Keeps}
+use Rattle.sheet_format.specs.Verdict.{verdict}
+use Rattle.sheet_format.specs.Faults.{fault_number}
+use Rattle.sheet_format.specs.Writing.{write_number, laid}
+use Rattle.sheet.specs.declared.copying.RewriteFault.{RewriteFault}
+use Rattle.sheet.specs.declared.copying.RewriteFault.TheVariants.{Sheet, Write}
+
+-- the check accepts these bytes
+pub record IsAccepted (xs : List ℕ) : Type 0 where
+  pub found : Summary
+  pub is : verdict xs ≡ Ok found
+
+-- bytes that begin with a whole record of a known kind
+pub record HasRecord (xs : List ℕ) : Type 0 where
+  pub kind : Kind
+  pub is_kind : kind_number kind ≡ number2 xs 2
+  pub low : 4 ≤ number2 xs 0
+  pub high : number2 xs 0 ≤ length xs
+
+-- The buffer was too short: the first records of the sheet stand in it, as many as were put, and all other bytes are as they were.
+pub record CutShort (sheet before buffer : List ℕ) : Type 0 where
+  pub short : length before < length sheet
+  pub begun : Begun
+  pub keeps : Keeps begun
+  pub rest : List ℕ
+  pub same : sheet ≡ bytes_begun begun ++ rest
+  pub there : buffer ≡ laid 0 (bytes_begun begun) before
+
+-- the answer to putting all records of an accepted sheet: its length, and it stands in the buffer; or there is no room
+abbrev pub Copied : List ℕ → List ℕ → List ℕ → Result ℕ WriteFault → Type 0
+Copied sheet before buffer (Ok place) = (place ≡ length sheet) × (length sheet ≤ length before) × (buffer ≡ laid 0 sheet before)
+Copied sheet before buffer (Err fault) = (fault ≡ NoRoom) × CutShort sheet before buffer
+
+-- The answer to rewriting any bytes: a refused sheet's fault, and the buffer is as it was; else the answer to putting all its records.
+abbrev pub Rewrites : List ℕ → List ℕ → List ℕ → Result ℕ RewriteFault → Type 0
+Rewrites sheet before buffer (Ok place) = IsAccepted sheet × Copied sheet before buffer (Ok place)
+Rewrites sheet before buffer (Err (Sheet fault)) = (verdict sheet ≡ Err fault) × (buffer ≡ before)
+Rewrites sheet before buffer (Err (Write fault)) = IsAccepted sheet × Copied sheet before buffer (Err fault)
+
+abbrev pub rewrite_number : RewriteFault → ℕ
+rewrite_number (Sheet fault) = fault_number fault
+rewrite_number (Write fault) = write_number fault

@@ -1,0 +1,91 @@
+-- What a writer of sheets puts down, and what each of its calls does to it and to the buffer.
+use Rattle.std.specs.Prelude.{◌≡◌, ℕ, ◌+◌, Bool, true, false, cond, not, ◌&&◌, List, [], ◌++◌, length, take, drop, Ok, Err, Result, nat_lt}
+use Rattle.std.specs.List.{flat_map}
+use Rattle.sheet_format.specs.declared.found.Variable.{Variable}
+use Rattle.sheet_format.specs.declared.writing.WriteFault.{WriteFault}
+use Rattle.sheet_format.specs.declared.writing.WriteFault.TheVariants.{Format, NoRoom, Closed}
+use Rattle.sheet_format.specs.Numbers.{eight}
+use Rattle.sheet_format.specs.Value.{Constraint, sum, table, Move, add, retract}
+use Rattle.sheet_format.specs.Encoding.{Raw, framed, heading_record, variable_record, constraint_record, move_record, end_record}
+use Rattle.sheet_format.specs.Reading.{Shown, shows_heading, shows_variable, shows_sum, shows_table, shows_add, shows_retract, shows_end}
+use Rattle.sheet_format.specs.Verdict.{Tally, nothing_yet, Step, goes, ends, stops, step}
+use Rattle.sheet_format.specs.Faults.{cause_number}
+
+abbrev pub write_number : WriteFault → ℕ
+write_number (Format cause) = cause_number cause
+write_number NoRoom = 42
+write_number Closed = 43
+
+-- one entry of a sheet
+pub data Entry : Type 0 where
+  heads : ℕ → Entry
+  has_variable : Variable → Entry
+  has_constraint : Constraint → Entry
+  has_move : Move → Entry
+  ends_here : Entry
+
+abbrev pub entry_record : Entry → Raw
+entry_record (heads n) = heading_record n
+entry_record (has_variable v) = variable_record v
+entry_record (has_constraint c) = constraint_record c
+entry_record (has_move m) = move_record m
+entry_record ends_here = end_record
+
+-- what that record shows, if it begins at a place
+abbrev pub entry_shown : Entry → ℕ → Shown
+entry_shown (heads n) place = shows_heading (heading_record n).body
+entry_shown (has_variable v) place = shows_variable (variable_record v).body
+entry_shown (has_constraint (sum a b m k lo hi)) place = shows_sum (constraint_record (sum a b m k lo hi)).body
+entry_shown (has_constraint (table a b rows)) place = shows_table a b (flat_map eight rows) (place + 6)
+entry_shown (has_move (add p)) place = shows_add (move_record (add p)).body
+entry_shown (has_move (retract p)) place = shows_retract (move_record (retract p)).body
+entry_shown ends_here place = shows_end []
+
+-- What a writer knows: the check's tally of the records so far, the place that they reach, and whether more may come: it is neither ended nor
+-- abandoned.
+pub record Pen : Type 0 where
+  pub tally : Tally
+  pub place : ℕ
+  pub is_open : Bool
+
+-- nothing is written
+abbrev pub new_pen : Pen
+new_pen = record { tally = nothing_yet; place = 0; is_open = true }
+
+abbrev pub closed : Pen → Pen
+closed p = record { tally = p.tally; place = p.place; is_open = false }
+
+-- what ends before this place lies in a buffer of so many bytes, and in the 65,535 bytes of a sheet
+abbrev pub lies_in : ℕ → ℕ → Bool
+lies_in size after = not (nat_lt size after) && not (nat_lt 65535 after)
+
+-- A record that ends before the place `after`, by the check's step. One that is not the end leaves room for the four bytes of the end.
+abbrev pub put_step : Pen → ℕ → ℕ → Step → Result Pen WriteFault
+put_step p size after (goes g) =
+    cond (lies_in size (after + 4)) (Ok (record { tally = g; place = after; is_open = true })) (Err NoRoom)
+put_step p size after ends =
+    cond (lies_in size after) (Ok (record { tally = p.tally; place = after; is_open = false })) (Err NoRoom)
+put_step p size after (stops cause) = Err (Format cause)
+
+-- the writer after a record of so many bytes is put into a buffer of a size, or why it is refused
+abbrev pub put : Pen → ℕ → Shown → ℕ → Result Pen WriteFault
+put p size s long = cond p.is_open (put_step p size (p.place + long) (step p.tally s (p.place + long))) (Err Closed)
+
+-- a buffer with these bytes from a place on, and all others as they were
+abbrev pub laid : ℕ → List ℕ → List ℕ → List ℕ
+laid place bytes buffer = take place buffer ++ (bytes ++ drop (place + length bytes) buffer)
+
+-- A call that puts a record: the new writer, and the answer, which is the place reached; the bytes stand in the buffer from the old place on.
+-- Or it is refused, and writer and buffer are as they were.
+abbrev pub Puts : Pen → List ℕ → Shown → List ℕ → Pen → List ℕ → Result ℕ WriteFault → Type 0
+Puts p xs s bytes q ys (Ok place) = (put p (length xs) s (length bytes) ≡ Ok q) × (place ≡ q.place) × (ys ≡ laid p.place bytes xs)
+Puts p xs s bytes q ys (Err fault) = (put p (length xs) s (length bytes) ≡ Err fault) × (q ≡ p) × (ys ≡ xs)
+
+-- the same of an entry
+abbrev pub PutsEntry : Pen → List ℕ → Entry → Pen → List ℕ → Result ℕ WriteFault → Type 0
+PutsEntry p xs e = Puts p xs (entry_shown e p.place) (framed (entry_record e))
+
+-- a call that closes an open writer and writes nothing; its answer is the place reached
+abbrev pub Abandons : Pen → Pen → Result ℕ WriteFault → Type 0
+Abandons p q (Ok place) = (p.is_open ≡ true) × (q ≡ closed p) × (place ≡ p.place)
+Abandons p q (Err fault) = (p.is_open ≡ false) × (q ≡ p) × (fault ≡ Closed)

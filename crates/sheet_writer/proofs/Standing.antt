@@ -1,0 +1,86 @@
+-- What one call more makes of what stands in the buffer, and of a list of calls.
+use Rattle.std.proofs.Common.{◌≡◌, ℕ, ◌+◌, Bool, true, false, cond, ◌||◌, List, [], ◌∷◌, ◌++◌, length, take, Some, None, Ok, Err, Result, sym, refl, ap, ◌∙◌, subst, arith}
+use Rattle.std.proofs.lemmas.List.{append_assoc, append-nil}
+use Rattle.sheet_format.specs.declared.writing.WriteFault.{WriteFault}
+use Rattle.sheet_format.specs.declared.writing.WriteFault.TheVariants.{Closed}
+use Rattle.sheet_format.specs.Beginnings.{Begun, nothing_begun}
+use Rattle.sheet_format.specs.Writing.{Entry, heads, has_variable, has_constraint, has_move, ends_here, Pen, closed, PutsEntry, Abandons}
+use Rattle.sheet_format.specs.Written.{begun_with, Written, Whole, Grown, Grows}
+use Rattle.sheet_law.proofs.Growing.{end_closes}
+use Rattle.sheet_writer.specs.declared.calls.Call.{Call}
+use Rattle.sheet_writer.specs.Calls.{asked, Makes, Runs, one_put, all_put, begun_from, begun_by, is_the_end, ended, Stands, unended, whole}
+
+begun_more : (b : Begun) (es : List Entry) (e : Entry) → begun_from b (es ++ (e ∷ [])) ≡ begun_with (begun_from b es) e
+begun_more b [] e = refl
+begun_more b (d ∷ es) e = begun_more (begun_with b d) es e
+
+or_nothing : (t : Bool) → (t || false) ≡ t
+or_nothing true = refl
+or_nothing false = refl
+
+or_chain : (s t u : Bool) → (s || (t || u)) ≡ ((s || t) || u)
+or_chain true t u = refl
+or_chain false t u = refl
+
+ended_more : (es : List Entry) (e : Entry) → ended (es ++ (e ∷ [])) ≡ (ended es || is_the_end e)
+ended_more [] e = or_nothing (is_the_end e)
+ended_more (d ∷ es) e = ap (λ t. is_the_end d || t) (ended_more es e) ∙ or_chain (is_the_end d) (ended es) (is_the_end e)
+
+never : (r : Result Pen WriteFault) (q : Pen) (t : Bool) → t ≡ false → cond t r (Err Closed) ≡ Ok q → ⊥
+never r q false e f = let z : ◌≡◌ {A = ℕ} 0 1 = cc in omega arith
+never r q true e f = let z : ◌≡◌ {A = ℕ} 0 1 = cc in omega arith
+
+-- an entry more that is not the end
+one_more : (es : List Entry) (e : Entry) (q : Pen) (ys : List ℕ) → is_the_end e ≡ false → ended es ≡ false → Written (begun_with (begun_by es) e) q ys → Stands (es ++ (e ∷ [])) q ys
+one_more es e q ys last none w =
+    unended (ended_more es e ∙ ap (λ t. t || is_the_end e) none ∙ last) (subst (λ b. Written b q ys) (sym (begun_more nothing_begun es e)) w)
+
+accepted : (es : List Entry) (e : Entry) (p : Pen) (xs : List ℕ) (q : Pen) (ys : List ℕ) (place : ℕ) → PutsEntry p xs e q ys (Ok place) → ended es ≡ false
+    → Grown (begun_by es) e q ys place → Stands (es ++ (e ∷ [])) q ys
+accepted es (heads n) p xs q ys place puts none w = one_more es (heads n) q ys refl none w
+accepted es (has_variable v) p xs q ys place puts none w = one_more es (has_variable v) q ys refl none w
+accepted es (has_constraint c) p xs q ys place puts none w = one_more es (has_constraint c) q ys refl none w
+accepted es (has_move m) p xs q ys place puts none w = one_more es (has_move m) q ys refl none w
+accepted es ends_here p xs q ys place puts none w =
+    whole (ended_more es ends_here ∙ ap (λ t. t || true) none) (end_closes p (length xs) q puts.0)
+    (subst (λ b. Whole b q.place ys) (sym (begun_more nothing_begun es ends_here)) (subst (λ n. Whole (begun_by es) n ys) puts.1 w))
+
+same_stands : (es : List Entry) (p : Pen) (xs : List ℕ) (q : Pen) (ys : List ℕ) → q ≡ p → ys ≡ xs → Stands es p xs → Stands (es ++ []) q ys
+same_stands es p xs q ys e f s =
+    subst (λ ds. Stands ds q ys) (sym (append-nil es)) (subst (λ z. Stands es z ys) (sym e) (subst (λ zs. Stands es p zs) (sym f) s))
+
+pub stands_more : (e : Entry) (p : Pen) (xs : List ℕ) (q : Pen) (ys : List ℕ) (r : Result ℕ WriteFault) → PutsEntry p xs e q ys r → ((b : Begun) → Written b p xs → Grows b e q ys r)
+    → (es : List Entry) → Stands es p xs → Stands (es ++ one_put (Some e) r) q ys
+stands_more e p xs q ys (Ok place) puts grows es (unended none w) = accepted es e p xs q ys place puts none (grows (begun_by es) w)
+stands_more e p xs q ys (Ok place) puts grows es (whole last shut w) = absurd (never _ q p.is_open shut puts.0)
+stands_more e p xs q ys (Err fault) puts grows es s = same_stands es p xs q ys puts.1 puts.2 s
+
+closed_stands : (es : List Entry) (p : Pen) (xs : List ℕ) → Stands es p xs → Stands es (closed p) xs
+closed_stands es p xs (unended none w) = unended none (record { keeps = w.keeps; tallied = w.tallied; reached = w.reached; bytes = w.bytes })
+closed_stands es p xs (whole last shut w) = whole last refl w
+
+pub stands_abandoned : (p : Pen) (xs : List ℕ) (q : Pen) (ys : List ℕ) (r : Result ℕ WriteFault) → Abandons p q r → ys ≡ xs → (es : List Entry) → Stands es p xs → Stands (es ++ one_put None r) q ys
+stands_abandoned p xs q ys (Ok place) a same es s = same_stands es (closed p) xs q ys a.1 same (closed_stands es p xs s)
+stands_abandoned p xs q ys (Err fault) a same es s = same_stands es p xs q ys a.1 same s
+
+-- a list of calls with one call more
+runs_more : (p : Pen) (xs : List ℕ) (cs : List Call) (rs : List (Result ℕ WriteFault)) (m : Pen) (zs : List ℕ) (c : Call) (r : Result ℕ WriteFault) (q : Pen) (ys : List ℕ)
+    → Runs p xs cs rs m zs → Makes m zs (asked c) q ys r → (Runs p xs (cs ++ (c ∷ [])) (rs ++ (r ∷ [])) q ys) × (all_put (cs ++ (c ∷ [])) (rs ++ (r ∷ [])) ≡ all_put cs rs ++ one_put (asked c) r)
+runs_more p xs [] [] m zs c r q ys s makes =
+    ((q, ys, subst (λ z. Makes z xs (asked c) q ys r) s.0 (subst (λ ws. Makes m ws (asked c) q ys r) s.1 makes), (refl, refl)), append-nil (one_put (asked c) r))
+runs_more p xs [] (t ∷ rs) m zs c r q ys s makes = absurd s
+runs_more p xs (d ∷ cs) [] m zs c r q ys s makes = absurd s
+runs_more p xs (d ∷ cs) (t ∷ rs) m zs c r q ys s makes =
+    let more = runs_more s.0 s.1 cs rs m zs c r q ys s.3 makes in
+    ((s.0, s.1, s.2, more.0), ap (λ es. one_put (asked d) t ++ es) more.1 ∙ sym (append_assoc (one_put (asked d) t) (all_put cs rs) (one_put (asked c) r)))
+
+-- the calls up to one more of a list
+pub taken_more : (p : Pen) (xs : List ℕ) (calls : List Call) (i : ℕ) (rs answers : List (Result ℕ WriteFault)) (m : Pen) (zs : List ℕ) (c : Call) (r : Result ℕ WriteFault) (q : Pen) (ys : List ℕ)
+    → take (i + 1) calls ≡ take i calls ++ (c ∷ []) → answers ≡ rs ++ (r ∷ []) → Runs p xs (take i calls) rs m zs → Stands (all_put (take i calls) rs) m zs → Makes m zs (asked c) q ys r
+    → ((es : List Entry) → Stands es m zs → Stands (es ++ one_put (asked c) r) q ys)
+    → (Runs p xs (take (i + 1) calls) answers q ys) × Stands (all_put (take (i + 1) calls) answers) q ys
+taken_more p xs calls i rs answers m zs c r q ys e f runs stands makes on =
+    let more = runs_more p xs (take i calls) rs m zs c r q ys runs makes in
+    subst (λ cs. (Runs p xs cs answers q ys) × Stands (all_put cs answers) q ys) (sym e)
+    (subst (λ ts. (Runs p xs (take i calls ++ (c ∷ [])) ts q ys) × Stands (all_put (take i calls ++ (c ∷ [])) ts) q ys) (sym f)
+    (more.0, subst (λ es. Stands es q ys) (sym more.1) (on (all_put (take i calls) rs) stands)))

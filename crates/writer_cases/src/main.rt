@@ -1,0 +1,151 @@
+// Makes the calls of a table of cases on a writer, one case a line on standard input, and prints what the last 16 calls answer and a checksum of the buffer.
+// A line is a name, a colon, the length of the buffer, and the calls: a letter and its numbers, joined by commas, each perhaps followed by `*` and
+// how often it stands. The buffer is full of 238 at first.
+#![tactic(auto)]
+
+use anyhow::{Context, anyhow};
+use sheet::Formula;
+use sheet_format::Variable;
+use sheet_writer::{Call, write};
+use std::alloc::Global;
+use std::io::{BufRead, BufReader};
+
+// a call as it stands in the table
+#[derive(Drop)]
+struct Line {
+    letter: char,
+    numbers: Vec<i64>,
+    rows: Vec<u64>,
+}
+
+fn number(line: &Line, at: usize) -> i64 {
+    line.numbers.get(at).copied().unwrap_or(0)
+}
+
+fn formula_of(line: &Line) -> anyhow::Result<Formula> {
+    Ok(Formula {
+        m: i16::try_from(number(line, 2))?,
+        k: i16::try_from(number(line, 3))?,
+        lo: i32::try_from(number(line, 4))?,
+        hi: i32::try_from(number(line, 5))?,
+    })
+}
+
+fn sum_of(line: &Line) -> anyhow::Result<Call<'_>> {
+    Ok(Call::Sum {
+        left: u8::try_from(number(line, 0))?,
+        right: u8::try_from(number(line, 1))?,
+        formula: formula_of(line)?,
+    })
+}
+
+fn table_of(line: &Line) -> anyhow::Result<Call<'_>> {
+    Ok(Call::Table {
+        left: u8::try_from(number(line, 0))?,
+        right: u8::try_from(number(line, 1))?,
+        rows: &line.rows,
+    })
+}
+
+fn call_of(line: &Line) -> anyhow::Result<Call<'_>> {
+    match line.letter {
+        's' => sum_of(line),
+        't' => table_of(line),
+        letter => {
+            let first = u16::try_from(number(line, 0))?;
+            let second = u16::try_from(number(line, 1))?;
+            Ok(match letter {
+                'h' => Call::Heading(first),
+                'v' => Call::Variable(Variable {
+                    size: first,
+                    house: second,
+                }),
+                'a' => Call::Add(first),
+                'r' => Call::Retract(first),
+                'e' => Call::End,
+                _ => Call::Abandon,
+            })
+        }
+    }
+}
+
+// a table's numbers after its ends are its rows
+fn line_of(heap: Global, word: &str) -> anyhow::Result<Line> {
+    let mut parts = word.split(',');
+    let letter = parts
+        .next()
+        .and_then(|first| first.chars().next())
+        .context("a call has no letter")?;
+    let mut numbers = Vec::new(heap);
+    let mut rows = Vec::new(heap);
+    for part in parts {
+        if letter == 't' && numbers.len() >= 2 {
+            rows.push(part.parse::<u64>()?)?;
+        } else {
+            numbers.push(part.parse::<i64>()?)?;
+        }
+    }
+    Ok(Line {
+        letter,
+        numbers,
+        rows,
+    })
+}
+
+fn add_lines(heap: Global, lines: &mut Vec<Line>, word: &str) -> anyhow::Result<()> {
+    let (call, times) = match word.split_once('*') {
+        Some((call, count)) => (call, count.parse::<u32>()?),
+        None => (word, 1),
+    };
+    for _ in 0..times {
+        lines.push(line_of(heap, call)?)?;
+    }
+    Ok(())
+}
+
+fn checksum(bytes: &[u8]) -> u32 {
+    let mut sum: u32 = 0;
+    for byte in bytes {
+        sum = sum.wrapping_mul(31).wrapping_add(u32::from(*byte));
+    }
+    sum
+}
+
+fn try_case(rt: &HostRuntime, name: &str, text: &str) -> anyhow::Result<()> {
+    let heap = rt.alloc();
+    let mut words = text.split(' ');
+    let size = words
+        .next()
+        .ok_or_else(|| anyhow!("a case has no buffer"))?
+        .parse::<u32>()?;
+    let mut lines = Vec::new(heap);
+    for word in words {
+        add_lines(heap, &mut lines, word)?;
+    }
+    let calls: Vec<Call<'_>> = lines.iter().map(call_of).try_collect(heap)?;
+    let mut buffer = Vec::from_elem(heap, 238, size as usize)?;
+    let answers = write(heap, &calls, &mut buffer)?;
+    print!(rt; "{name}:")?;
+    let last = answers.len().saturating_sub(16);
+    for answer in answers.iter().skip(last) {
+        match *answer {
+            Ok(place) => print!(rt; " {place}")?,
+            Err(fault) => {
+                let number = fault.number();
+                print!(rt; " no{number}")?;
+            }
+        }
+    }
+    let sum = checksum(&buffer);
+    println!(rt; "; {sum}")?;
+    Ok(())
+}
+
+fn main(rt: HostRuntime) -> anyhow::Result<()> {
+    for line in BufReader::new(rt.alloc(), rt.stdin())?.lines(rt.alloc()) {
+        let line = line?;
+        let (name, text) = line.split_once(':').context("a line has no name")?;
+        try_case(&rt, name, text)?;
+    }
+    Ok(())
+}
