@@ -1,5 +1,5 @@
 -- One record more of a sheet that is put into a buffer.
-use Rattle.std.proofs.Common.{◌≡◌, ℕ, zero, suc, ◌+◌, ◌-◌, ◌<◌, ◌≤◌, Bool, true, false, cond, not, ◌&&◌, eqb, ltb, List, [], ◌++◌, length, take, drop, Some, Ok, Err, Result, sym, refl, ap, ◌∙◌, subst, ⊎_elim, inl, inr, ◌⊎◌, arith}
+use Rattle.std.proofs.Common.{◌≡◌, ℕ, zero, suc, ◌+◌, ◌-◌, ◌<◌, ◌≤◌, min, Bool, true, false, cond, not, ◌&&◌, eqb, ltb, List, [], ◌++◌, length, take, drop, Some, Ok, Err, Result, sym, refl, ap, ◌∙◌, subst, ⊎_elim, inl, inr, ◌⊎◌, arith}
 use Rattle.std.specs.List.{flat_map}
 use Rattle.std.proofs.ByRecursion.{All-drop}
 use Rattle.std.proofs.lemmas.List.{append_assoc, append-nil, length-append, length-drop, length-take, nil_from_length}
@@ -44,6 +44,7 @@ pub record Copying (sheet before : List ℕ) (p : Pen) (left buffer : List ℕ) 
   pub same : sheet ≡ bytes_begun begun ++ left
   pub there : buffer ≡ laid 0 (bytes_begun begun) before
   pub fits : length (bytes_begun begun) ≤ length before
+  pub end_fits : 1 ≤ length (bytes_begun begun) → length (bytes_begun begun) + 4 ≤ length before
   pub bytes : Bytes left
 
 never : (f : SheetFault) (z : Summary) → ◌≡◌ {A = Verdict} (Err f) (Ok z) → ⊥
@@ -219,6 +220,7 @@ module _ (sheet before : List ℕ) (p : Pen) (left buffer : List ℕ) (c : Copyi
         same = same_bytes ∙ ap (λ ys. ys ++ n.rest) (sym more);
         there = laid_so ys put ∙ ap (λ zs. laid 0 zs before) (sym more);
         fits = omega (arith, l.0);
+        end_fits = λ _. omega (arith, l.0);
         bytes = rest_bytes;
       }
 
@@ -238,8 +240,19 @@ module _ (sheet before : List ℕ) (p : Pen) (left buffer : List ℕ) (c : Copyi
   refused : (f : WriteFault) (ys : List ℕ) → put p (length buffer) n.shows (4 + length n.raw.body) ≡ Err f → ys ≡ buffer → Copied sheet before ys (Err f)
   refused f ys e same = by (step p.tally n.shows (p.place + (4 + length n.raw.body))) refl (shut p.is_open _ f c.is_open e)
     where
-      cut : length before < length sheet → CutShort sheet before ys
-      cut l = record { short = l; begun = c.begun; keeps = c.keeps; rest = left; same = c.same; there = same ∙ c.there }
+      cut : length before < length sheet → length before < length (bytes_begun c.begun) + (length (framed n.raw) + min 4 (length n.rest)) → CutShort sheet before ys
+      cut l m =
+          record {
+            short = l;
+            begun = c.begun;
+            keeps = c.keeps;
+            next = n.raw;
+            after = n.rest;
+            same = c.same ∙ ap (λ zs. bytes_begun c.begun ++ zs) n.same;
+            fits = c.end_fits;
+            full = m;
+            there = same ∙ c.there;
+          }
 
       by : (st : Step) → step p.tally n.shows (p.place + (4 + length n.raw.body)) ≡ st → put_step p (length buffer) (p.place + (4 + length n.raw.body)) st ≡ Err f → Copied sheet before ys (Err f)
       by (goes h) s r =
@@ -248,13 +261,19 @@ module _ (sheet before : List ℕ) (p : Pen) (left buffer : List ℕ) (c : Copyi
           let long = all_long in
           let size = same_size in
           let short = c.short in
-          (t.1, cut (⊎_elim (λ l. omega arith) (λ l. omega arith) (not_lies (length buffer) (p.place + (4 + length n.raw.body) + 4) t.0)))
+          let reached = c.reached in
+          let over : length buffer < p.place + (4 + length n.raw.body) + 4 =
+          ⊎_elim (λ l. l) (λ l. absurd (omega arith)) (not_lies (length buffer) (p.place + (4 + length n.raw.body) + 4) t.0) in
+          (t.1, cut (omega arith) (omega arith))
       by ends s r =
           let t = no_room _ _ f r in
           let long = all_long in
           let size = same_size in
           let short = c.short in
-          (t.1, cut (⊎_elim (λ l. omega arith) (λ l. omega arith) (not_lies (length buffer) (p.place + (4 + length n.raw.body)) t.0)))
+          let reached = c.reached in
+          let over : length buffer < p.place + (4 + length n.raw.body) =
+          ⊎_elim (λ l. l) (λ l. absurd (omega arith)) (not_lies (length buffer) (p.place + (4 + length n.raw.body)) t.0) in
+          (t.1, cut (omega arith) (omega arith))
       by (stops cause) s r =
           absurd (never _ c.found (sym (ap (after_step (walked n.most) p.tally p.place c.records n.rest (p.place + (4 + length n.raw.body))) s) ∙ n.on))
 
@@ -332,6 +351,7 @@ start xs before a b = by (ltb 65535 (length xs)) refl a.is
           same = refl;
           there = refl;
           fits = omega arith;
+          end_fits = λ l. absurd (omega arith);
           bytes = b;
         }
 

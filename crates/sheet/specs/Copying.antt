@@ -1,11 +1,12 @@
 -- What is put into a buffer of an accepted sheet's records.
-use Rattle.std.specs.Prelude.{◌≡◌, ℕ, ◌<◌, ◌≤◌, List, ◌++◌, length, Ok, Err, Result}
+use Rattle.std.specs.Prelude.{◌≡◌, ℕ, ◌+◌, ◌<◌, ◌≤◌, min, List, ◌++◌, length, Ok, Err, Result}
 use Rattle.sheet_format.specs.declared.found.Summary.{Summary}
 use Rattle.sheet_format.specs.declared.kinds.Kind.{Kind}
 use Rattle.sheet_format.specs.declared.writing.WriteFault.{WriteFault}
 use Rattle.sheet_format.specs.declared.writing.WriteFault.TheVariants.{NoRoom}
 use Rattle.sheet_format.specs.Numbers.{number2}
 use Rattle.sheet_format.specs.Kinds.{kind_number}
+use Rattle.sheet_format.specs.Encoding.{Raw, framed}
 use Rattle.sheet_format.specs.Beginnings.{Begun, bytes_begun, Keeps}
 use Rattle.sheet_format.specs.Verdict.{verdict}
 use Rattle.sheet_format.specs.Faults.{fault_number}
@@ -25,13 +26,17 @@ pub record HasRecord (xs : List ℕ) : Type 0 where
   pub low : 4 ≤ number2 xs 0
   pub high : number2 xs 0 ≤ length xs
 
--- The buffer was too short: the first records of the sheet stand in it, as many as were put, and all other bytes are as they were.
+-- The buffer was too short: the first records of the sheet stand in it, and all other bytes are as they were. The end would fit after them, and the
+-- record that is next does not fit: with four bytes more for the end, or, if it is the end, by itself.
 pub record CutShort (sheet before buffer : List ℕ) : Type 0 where
   pub short : length before < length sheet
   pub begun : Begun
   pub keeps : Keeps begun
-  pub rest : List ℕ
-  pub same : sheet ≡ bytes_begun begun ++ rest
+  pub next : Raw
+  pub after : List ℕ
+  pub same : sheet ≡ bytes_begun begun ++ (framed next ++ after)
+  pub fits : 1 ≤ length (bytes_begun begun) → length (bytes_begun begun) + 4 ≤ length before
+  pub full : length before < length (bytes_begun begun) + (length (framed next) + min 4 (length after))
   pub there : buffer ≡ laid 0 (bytes_begun begun) before
 
 -- the answer to putting all records of an accepted sheet: its length, and it stands in the buffer; or there is no room
