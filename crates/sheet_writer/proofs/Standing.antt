@@ -1,6 +1,6 @@
 -- What one call more makes of what stands in the buffer, and of a list of calls.
-use Rattle.std.proofs.Common.{◌≡◌, ℕ, ◌+◌, Bool, true, false, cond, ◌||◌, List, [], ◌∷◌, ◌++◌, length, take, Some, None, Ok, Err, Result, sym, refl, ap, ◌∙◌, subst, arith}
-use Rattle.std.proofs.lemmas.List.{append_assoc, append-nil}
+use Rattle.std.proofs.Common.{◌≡◌, ℕ, ◌+◌, Bool, true, false, cond, ◌||◌, List, [], ◌∷◌, ◌++◌, length, drop, set, take, Some, None, Ok, Err, Result, sym, refl, ap, ◌∙◌, subst, arith}
+use Rattle.std.proofs.lemmas.List.{append_assoc, append-nil, drop-drop, drop-set-lt}
 use Rattle.sheet_format.specs.declared.writing.WriteFault.{WriteFault}
 use Rattle.sheet_format.specs.declared.writing.WriteFault.TheVariants.{Closed}
 use Rattle.sheet_format.specs.Beginnings.{Begun, nothing_begun}
@@ -84,3 +84,8 @@ taken_more p xs calls i rs answers m zs c r q ys e f runs stands makes on =
     subst (λ cs. (Runs p xs cs answers q ys) × Stands (all_put cs answers) q ys) (sym e)
     (subst (λ ts. (Runs p xs (take i calls ++ (c ∷ [])) ts q ys) × Stands (all_put (take i calls ++ (c ∷ [])) ts) q ys) (sym f)
     (more.0, subst (λ es. Stands es q ys) (sym more.1) (on (all_put (take i calls) rs) stands)))
+
+-- an entry is written, and those after it are as they were
+pub past_set : {T : Type 0} (i : ℕ) (before now : List T) (x : T) → drop i now ≡ drop i before → drop (i + 1) (set now i x) ≡ drop (i + 1) before
+past_set i before now x same =
+    drop-set-lt (i + 1) now i x (omega arith) ∙ sym (drop-drop 1 i now) ∙ ap (drop 1) same ∙ drop-drop 1 i before

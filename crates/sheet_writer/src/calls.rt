@@ -1,11 +1,10 @@
 // A list of a writer's calls, made one after the other.
-ghost use Rattle.std.specs.Prelude.{◌≡◌, List, ◌++◌, IfOk, IfErr};
+ghost use Rattle.std.specs.Prelude.{◌≡◌, List, ◌++◌, drop, length, take};
 ghost use Rattle.sheet_format.specs.Writing.{Entry};
 ghost use Rattle.sheet_writer.specs.Calls.{asked, Makes, one_put, Stands, Wrote};
 
 use sheet::{Formula, Writer};
 use sheet_format::{Variable, WriteFault};
-use std::alloc::{AllocError, Global};
 
 // A call of a writer.
 #[derive(Clone, Copy)]
@@ -49,21 +48,22 @@ fn make(writer: &mut Writer, buffer: &mut [u8], call: Call<'_>) -> Result<usize,
     }
 }
 
-// Makes a writer, and these calls of it in their order, and abandons it where they leave it open. What the calls answer, and what stands in the
-// buffer after them, is what the definition says call by call; after an accepted end it is the sheet that was put in.
+// Makes a writer, and these calls of it in their order, as many as there are entries for their answers, and abandons it where they leave it open. What
+// the calls answer, and what stands in the buffer after them, is what the definition says call by call; after an accepted end it is the sheet that was put in.
 pub fn write(
-    heap: Global,
     calls: &[Call<'_>],
+    answers: &mut [Result<usize, WriteFault>],
     buffer: &mut [u8],
-) -> Result<Vec<Result<usize, WriteFault>>, AllocError>
-    ensures wrote { IfOk result (λ answers. Wrote buffer.old calls.now answers.items buffer.new) }
-    ensures failed { IfErr result (λ error. buffer.new ≡ buffer.old) }
+)
+    ensures wrote { Wrote buffer.old (take (length answers.old) calls.now) (take (length calls.now) answers.new) buffer.new }
+    ensures long { length answers.new ≡ length answers.old }
+    ensures others { drop (length calls.now) answers.new ≡ drop (length calls.now) answers.old }
 {
-    let mut answers = Vec::with_capacity(heap, calls.len())?;
+    // The place is that of the call and of its answer: after `iter_mut().zip(..)` nothing is known of what was written.
+    let there = calls.len().min(answers.len());
     let mut writer = Writer::new();
-    for call in calls {
-        answers.push_reserved(make(&mut writer, buffer, *call));
+    for (i, call) in calls[..there].iter().enumerate() {
+        answers[i] = make(&mut writer, buffer, *call);
     }
     let _ = writer.abandon();
-    Ok(answers)
 }

@@ -1,11 +1,12 @@
 // Makes the calls of a table of cases on a writer, one case a line on standard input, and prints what the last 16 calls answer and a checksum of the buffer.
+// After an accepted end what was written is checked, counted and copied, and a difference is an error.
 // A line is a name, a colon, the length of the buffer, and the calls: a letter and its numbers, joined by commas, each perhaps followed by `*` and
 // how often it stands. The buffer is full of 238 at first.
 #![tactic(auto)]
 
 use anyhow::{Context, anyhow};
-use sheet::Formula;
-use sheet_format::Variable;
+use sheet::{Formula, check, rewrite};
+use sheet_format::{Variable, WriteFault};
 use sheet_writer::{Call, write};
 use std::alloc::Global;
 use std::io::{BufRead, BufReader};
@@ -63,7 +64,8 @@ fn call_of(line: &Line) -> anyhow::Result<Call<'_>> {
                 'a' => Call::Add(first),
                 'r' => Call::Retract(first),
                 'e' => Call::End,
-                _ => Call::Abandon,
+                'x' => Call::Abandon,
+                other => return Err(anyhow!("no call has the letter {other}")),
             })
         }
     }
@@ -111,6 +113,62 @@ fn checksum(bytes: &[u8]) -> u32 {
     sum
 }
 
+// What was put by accepted calls up to an accepted end, and the place that the end reached.
+#[derive(Clone, Copy)]
+struct Written {
+    variables: u32,
+    constraints: u32,
+    moves: u32,
+    place: usize,
+}
+
+// Nothing where no end was accepted.
+fn written_by(calls: &[Call<'_>], answers: &[Result<usize, WriteFault>]) -> Option<Written> {
+    let mut written = Written {
+        variables: 0,
+        constraints: 0,
+        moves: 0,
+        place: 0,
+    };
+    for (call, answer) in calls.iter().zip(answers) {
+        if let Ok(place) = *answer {
+            match call {
+                Call::Variable(_) => written.variables = written.variables.wrapping_add(1),
+                Call::Sum { .. } | Call::Table { .. } => {
+                    written.constraints = written.constraints.wrapping_add(1);
+                }
+                Call::Add(_) | Call::Retract(_) => written.moves = written.moves.wrapping_add(1),
+                Call::End => {
+                    written.place = place;
+                    return Some(written);
+                }
+                Call::Heading(_) | Call::Abandon => {}
+            }
+        }
+    }
+    None
+}
+
+// The check accepts the bytes, finds as much of everything as was put, and a second writer makes the same bytes of them.
+fn read_back(written: &Written, buffer: &[u8]) -> anyhow::Result<()> {
+    let sheet = buffer
+        .get(..written.place)
+        .context("the end is past the buffer")?;
+    let found = check(sheet).map_err(|fault| anyhow!("{fault}"))?;
+    if (found.variables, found.constraints, found.moves)
+        != (written.variables, written.constraints, written.moves)
+    {
+        return Err(anyhow!("{found}"));
+    }
+    let mut copy = [0; 65535];
+    let long = rewrite(sheet, &mut copy).map_err(|_| anyhow!("it is not copied"))?;
+    if copy.get(..long) == Some(sheet) {
+        Ok(())
+    } else {
+        Err(anyhow!("the copy differs"))
+    }
+}
+
 fn try_case(rt: &HostRuntime, name: &str, text: &str) -> anyhow::Result<()> {
     let heap = rt.alloc();
     let mut words = text.split(' ');
@@ -124,7 +182,11 @@ fn try_case(rt: &HostRuntime, name: &str, text: &str) -> anyhow::Result<()> {
     }
     let calls: Vec<Call<'_>> = lines.iter().map(call_of).try_collect(heap)?;
     let mut buffer = Vec::from_elem(heap, 238, size as usize)?;
-    let answers = write(heap, &calls, &mut buffer)?;
+    let mut answers = Vec::from_elem(heap, Ok(0), calls.len())?;
+    write(&calls, &mut answers, &mut buffer);
+    if let Some(written) = written_by(&calls, &answers) {
+        read_back(&written, &buffer).with_context(|| "what was written is read back")?;
+    }
     print!(rt; "{name}:")?;
     let last = answers.len().saturating_sub(16);
     for answer in answers.iter().skip(last) {

@@ -1,14 +1,24 @@
-use Rattle.std.proofs.Common.{◌<◌, length, rules}
+use Rattle.std.proofs.Common.{◌≡◌, ◌+◌, ◌<◌, ◌≤◌, length, take, sym, ap, ◌∙◌, arith, rules}
 use Rattle.std.proofs.lemmas.Grind.{take_at_read}
+use Rattle.std.proofs.lemmas.List.{length-take-le, length-set, take_more_set}
 use Rattle.sheet_format.specs.Writing.{new_pen}
 use Rattle.sheet_writer.specs.declared.calls.Call.TheVariants.{Heading}
-use Rattle.sheet_writer.proofs.Standing.{taken_more}
+use Rattle.sheet_writer.proofs.Standing.{taken_more, past_set}
 use Rattle.sheet_writer.proofs.calls.write.Goals as goal
 
-pub loop-call-preserved : goal.loop-call-preserved
-loop-call-preserved c =
-    let i = c.loop-call.invariant in
-    let low : c.loop-call.call-index < length c.args.calls.now = search rules in
-    let more = taken_more new_pen c.args.buffer.now c.args.calls.now c.loop-call.call-index c.loop-call.answers.items c.push_reserved.new.self.items c.loop-call.writer c.loop-call.buffer _ c.make.result c.make.new.writer c.make.new.buffer
-    (take_at_read c.args.calls.now c.loop-call.call-index (Heading 0) low).1 c.push_reserved.ensures.items i.0 i.1 c.make.ensures.call c.make.ensures.stands in
-    (more.0, more.1, search rules, search rules)
+pub loop-i-preserved : goal.loop-i-preserved
+loop-i-preserved c =
+    let inv = c.loop-i.invariant in
+    let i = c.loop-i.i in
+    let calls = take c.min-there.result c.args.calls.now in
+    let there : length calls ≡ c.min-there.result = length-take-le c.min-there.result c.args.calls.now (omega (arith, c.min-there.ensures)) in
+    let low : i < length calls = search rules in
+    let room : i < length c.loop-i.answers = omega (arith, low, there, inv.long, c.min-there.ensures) in
+    let more = taken_more new_pen c.args.buffer.now calls i (take i c.loop-i.answers) _ c.loop-i.writer c.loop-i.buffer _ c.make.result c.make.new.writer c.make.new.buffer
+    (take_at_read calls i (Heading 0) low).1 (take_more_set c.loop-i.answers i c.make.result room) inv.runs inv.stands c.make.ensures.call c.make.ensures.stands in
+    record {
+      runs = more.0;
+      stands = more.1;
+      long = length-set c.loop-i.answers i c.make.result ∙ inv.long;
+      others = past_set i c.args.answers.now c.loop-i.answers c.make.result inv.others;
+    }
