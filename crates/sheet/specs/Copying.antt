@@ -26,8 +26,8 @@ pub record HasRecord (xs : List ℕ) : Type 0 where
   pub low : 4 ≤ number2 xs 0
   pub high : number2 xs 0 ≤ length xs
 
--- The buffer was too short: the first records of the sheet stand in it, and all other bytes are as they were. The end would fit after them, and the
--- record that is next does not fit: with four bytes more for the end, or, if it is the end, by itself.
+-- The buffer was too short: the first records of the sheet stand in it, and all other bytes are as they were. Where there is one of them at least, the four
+-- bytes of an end would fit after them; the record that is next does not fit with as much of what follows it as an end has bytes.
 pub record CutShort (sheet before buffer : List ℕ) : Type 0 where
   pub short : length before < length sheet
   pub begun : Begun

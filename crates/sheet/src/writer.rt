@@ -197,6 +197,7 @@ impl Writer {
         self.is_open = !next.is_end();
         Ok(after)
     }
+
     // Writes the heading: the start word 1, and how many variables follow. Like each call, it answers the place reached.
     pub fn heading(&mut self, buffer: &mut [u8], n: u16) -> Result<usize, WriteFault>
         ensures call { PutsEntry self.old buffer.old (heads n) self.new buffer.new result }
@@ -239,6 +240,7 @@ impl Writer {
         ensures call { PutsEntry self.old buffer.old (has_constraint (table left right rows.now)) self.new buffer.new result }
         ensures written { (b : Begun) → Written b self.old buffer.old → Grows b (has_constraint (table left right rows.now)) self.new buffer.new result }
     {
+        // A field is read, so that the proof knows what the type promises: no variable has more than 64 values.
         let _ = &self.place;
         let body = table_body(left, right, &rows[..rows.len().min(65)]);
         self.put(buffer, Kind::Table, &body)
@@ -270,7 +272,8 @@ impl Writer {
 
     // Gives the sheet up and writes nothing. The writer may be let go.
     pub fn abandon(&mut self) -> Result<usize, WriteFault>
-        ensures { Abandons self.old self.new result }
+        ensures call { Abandons self.old self.new result }
+        ensures written { (b : Begun) (xs : List ℕ) → Written b self.old xs → Written b self.new xs }
     {
         if !self.is_open {
             return Err(WriteFault::Closed);
