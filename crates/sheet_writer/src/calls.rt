@@ -50,11 +50,7 @@ fn make(writer: &mut Writer, buffer: &mut [u8], call: Call<'_>) -> Result<usize,
 
 // Makes a writer, and these calls of it in their order, as many as there are entries for their answers, and abandons it where they leave it open. What
 // the calls answer, and what stands in the buffer after them, is what the definition says call by call; after an accepted end it is the sheet that was put in.
-pub fn write(
-    calls: &[Call<'_>],
-    answers: &mut [Result<usize, WriteFault>],
-    buffer: &mut [u8],
-)
+pub fn write(calls: &[Call<'_>], answers: &mut [Result<usize, WriteFault>], buffer: &mut [u8])
     ensures wrote { Wrote buffer.old (take (length answers.old) calls.now) (take (length calls.now) answers.new) buffer.new }
     ensures long { length answers.new ≡ length answers.old }
     ensures others { drop (length calls.now) answers.new ≡ drop (length calls.now) answers.old }
