@@ -8,7 +8,6 @@ use Rattle.justify.specs.Standing.{Out, Timed, Rests}
 use Rattle.justify.specs.Changes.{Stays, MoreReasons, ExceptReasons, Dated, Same, Released}
 use Rattle.justify.specs.Theorems.{ReleaseKept}
 use Rattle.justify.proofs.Keeps.{dated_trans, more_keeps, release_keeps, same_trans}
-use Rattle.domains.specs.declared.TheConstants.{LAST_TIME}
 use Rattle.domains.specs.declared.Constraints.{Constraints}
 use Rattle.domains.specs.declared.Domains.{Domains}
 use Rattle.domains.specs.Model.{within, is_present, left_of, right_of, pair_at, arcs_of, shown, standing, total, reason_is}
@@ -89,10 +88,6 @@ module _ (c : Constraints) (d : Domains) (p : ℕ) (low : p < 128) (stands : Sta
       (λ i x on h. stands.consistent i r x on h)
 
 -- the clock does not run over
--- the number in the code is that of the definition
-same_time : LAST_TIME ≡ last_time
-same_time = refl
-
 pub time_left : (d : Domains) → d.clock ≤ last_time → d.clock + total d.sets < 2 ^ 32
 time_left d h =
     let few : total d.sets ≤ 64 * length d.sets = total_few d.sets d.wide in

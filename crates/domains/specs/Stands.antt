@@ -1,5 +1,5 @@
 -- When constraints and domains stand rightly together, between calls.
-use Rattle.std.specs.Prelude.{◌≡◌, ℕ, ◌<◌, Bool, List, length, drop, ◌≢◌, slice_index, slice_set}
+use Rattle.std.specs.Prelude.{◌≡◌, ℕ, ◌<◌, Bool, List, length, drop, ◌≢◌, nat_lt, slice_index, slice_set}
 use Rattle.std.proofs.Common.{length-set, ◌∙◌}
 use Rattle.arcs.specs.Family.{Consistent}
 use Rattle.domains.specs.declared.Constraints.{Constraints}
@@ -32,6 +32,10 @@ with_present c p b =
 -- the last time at which a constraint may go in or out: at most 2,048 values go out then, and each takes one of the times below 2 ^ 32
 abbrev pub last_time : ℕ
 last_time = 4294965247
+
+-- too few times are left for a change
+abbrev pub spent : ℕ → Bool
+spent clock = nat_lt last_time clock
 
 -- a lent room is as long as it was, and past its first n entries as it was
 pub record Past {T : Type 0} (n : ℕ) (room room' : List T) : Type 0 where

@@ -3,12 +3,11 @@
 
 ghost use Rattle.std.specs.Prelude.{◌≡◌, ℕ, ◌^◌, ◌<◌, length, [], slice_index, slice_index_or};
 
+mod clock;
 mod make;
 
+pub use clock::is_spent;
 pub use make::{capped, full, no_constraints, no_domains, no_justifications};
-
-// The last time at which a constraint may go in or out (`last_time` of the definitions): at most 2,048 values go out then.
-pub const LAST_TIME: u32 = 4_294_965_247;
 
 // Bit x of `sets[i]` says whether the value x of the variable i is shown; `why[i][x]` is its justification, which counts for nothing while it is: an
 // `Option` would say again what the bit says, by which rows are met. The sets stand apart from the justifications, since a retraction keeps all sets as they

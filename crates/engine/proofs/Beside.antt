@@ -86,8 +86,8 @@ module _ (c : Constraints) (d d' d'' : Domains) (q q' q'' : Queue Returning) (v 
       (subst P (sym e) (fits_row x (inside_low a.far x o.inside) ∙ has))
       (subst Q (sym (subst F (sym e) far_back)) s)
 
-  pub beside_more : Roomy c d'' q'' → Grew d' d'' q' q'' → FreesAmong c d' d'' (waits q') (waits q'') a.far n (row c a.rows v.value) → ((x : ℕ) → within c a.far x ≡ true → has_bit (row c a.rows v.value) x ≡ true → (entry d''.why a.far x).constraint ≡ n → shown d'' a.far x ≡ true) → Beside c d d' q q' v n → Beside c d d'' q q'' v (n + 1)
-  beside_more roomy grew frees freed b =
+  pub beside_more : (among : ℕ) → among ≡ row c a.rows v.value → Roomy c d'' q'' → Grew d' d'' q' q'' → FreesAmong c d' d'' (waits q') (waits q'') a.far n among → ((x : ℕ) → within c a.far x ≡ true → has_bit among x ≡ true → (entry d''.why a.far x).constraint ≡ n → shown d'' a.far x ≡ true) → Beside c d d' q q' v n → Beside c d d'' q q'' v (n + 1)
+  beside_more among is_row roomy grew frees freed b =
       record {
         roomy = roomy;
         grew = grew_trans d d' d'' q q' q'' b.grew grew;
@@ -95,7 +95,9 @@ module _ (c : Constraints) (d d' d'' : Domains) (q q' q'' : Queue Returning) (v 
       }
     where
       next : (p : ℕ) (d₀ : Domains) → Releasing c p d₀ d (v ∷ waits q) → Releasing c p d₀ d'' (v ∷ waits q'')
-      next p d₀ h = frees p d₀ (v ∷ []) (all_rest p d₀ d' (waits q') (b.frees p d₀ h).0) (b.frees p d₀ h).0
+      next p d₀ h =
+          let A : ℕ → Type 0 = λ s. AllRest c p d₀ a.far n s in
+          frees p d₀ (v ∷ []) (subst A (sym is_row) (all_rest p d₀ d' (waits q') (b.frees p d₀ h).0)) (b.frees p d₀ h).0
 
       follow : (p : ℕ) (d₀ : Domains) → Releasing c p d₀ d (v ∷ waits q) → (i x : ℕ) → Out (within c) (standing d₀) i x → (standing d₀).reason i x < n + 1 → (arcs_of c).far i ((standing d₀).reason i x) ≡ v.variable → (arcs_of c).fits i ((standing d₀).reason i x) x v.value ≡ true → shown d'' i x ≡ true
       follow p d₀ h i x o l far fits =
@@ -117,7 +119,7 @@ module _ (c : Constraints) (d d' d'' : Domains) (q q' q'' : Queue Returning) (v 
               let R : ℕ → Type 0 = λ j. (entry d''.why j x).constraint ≡ n in
               let why : (entry d''.why i x).constraint ≡ n = ap (λ (w : List (List Justification)). (entry w i x).constraint) (next p d₀ h).why ∙ e in
               let S : ℕ → Type 0 = λ j. shown d'' j x ≡ true in
-              subst S (sym at) (freed x inside has (subst R at why))
+              subst S (sym at) (freed x inside (ap (λ s. has_bit s x) is_row ∙ has) (subst R at why))
 
 pub beside_all : (c : Constraints) (d d' : Domains) (q q' : Queue Returning) (v : Returning) (n : ℕ) → 128 ≤ n → Beside c d d' q q' v n → (p : ℕ) (d₀ : Domains) → Releasing c p d₀ d (v ∷ waits q) → Releasing c p d₀ d' (waits q')
 beside_all c d d' q q' v n l b p d₀ h =

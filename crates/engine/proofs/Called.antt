@@ -4,7 +4,7 @@ use Rattle.std.specs.Option.{is_none}
 use Rattle.std.proofs.lemmas.Bool.{and_parts, eq-eqb, eqb-false, ltb-true, not-true}
 use Rattle.arcs.specs.Family.{Consistent, Inside}
 use Rattle.arcs.specs.WipedOut.{Shown, WipedOut}
-use Rattle.bits.specs.Bits.{bit_at, has_bit}
+use Rattle.bits.specs.Bits.{bit_at, domains_of, has_bit}
 use Rattle.bits.proofs.Bitwise.{bit_of_zero, some_bit}
 use Rattle.domains.specs.declared.Constraints.{Constraints}
 use Rattle.domains.specs.declared.Domains.{Domains}
@@ -37,22 +37,25 @@ more_shown c c' d d' s s' grew =
     total_inside d.sets d'.sets (d.sets_long ∙ sym d'.sets_long) d.wide d'.wide grew
 
 -- an opening
-module _ (c : Constraints) (d d' : Domains) (given sizes : List ℕ) (stands : Stands c d) (long : length sizes ≡ 32) (capped : (i : ℕ) → get_or sizes i 0 ≡ cond (ltb i 32) (min 64 (get_or given i 0)) 0) (full : (i x : ℕ) → i < 32 → shown d' i x ≡ (ltb x (get_or sizes i 0) && ltb x 64)) (c' : Constraints) (same : reopened c sizes long ≡ c') (filled : d'.why ≡ no_justifications) where
-  pub afresh_stands : Stands c' d'
-  afresh_stands = subst (λ k. Stands k d') same (stands_open c d d' sizes stands long (sizes_small sizes given capped) full)
+module _ (c : Constraints) (d d' : Domains) (given sizes sets : List ℕ) (time : ℕ) (stands : Stands c d) (long : length sizes ≡ 32) (capped : (i : ℕ) → get_or sizes i 0 ≡ cond (ltb i 32) (min 64 (get_or given i 0)) 0) (full : (i x : ℕ) → i < 32 → domains_of sets i x ≡ (ltb x (get_or sizes i 0) && ltb x 64)) (c' : Constraints) (same : reopened c sizes long ≡ c') (taken : d'.sets ≡ sets) (filled : d'.why ≡ no_justifications) (begun : d'.clock ≡ time) where
+  all : (i x : ℕ) → i < 32 → shown d' i x ≡ (ltb x (get_or sizes i 0) && ltb x 64)
+  all i x low = ap (λ s. domains_of s i x) taken ∙ full i x low
 
-  pub afresh_opened : Opened c c' d' given d'.clock
+  pub afresh_stands : Stands c' d'
+  afresh_stands = subst (λ k. Stands k d') same (stands_open c d d' sizes stands long (sizes_small sizes given capped) all)
+
+  pub afresh_opened : Opened c c' d' given time
   afresh_opened =
-      subst (λ k. Opened c k d' given d'.clock) same
+      subst (λ k. Opened c k d' given time) same
       (record {
         sizes = capped;
         none = none_at 128;
         ends = refl;
         rows = refl;
-        all = all_shown c d d' sizes stands long (sizes_small sizes given capped) full;
+        all = all_shown c d d' sizes stands long (sizes_small sizes given capped) all;
         why = filled;
-        clock = refl;
-        stands = right_now (reopened c sizes long) d' (stands_open c d d' sizes stands long (sizes_small sizes given capped) full);
+        clock = begun;
+        stands = right_now (reopened c sizes long) d' (stands_open c d d' sizes stands long (sizes_small sizes given capped) all);
       })
 
 -- nothing speaks against it just where it can be

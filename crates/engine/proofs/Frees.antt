@@ -28,6 +28,15 @@ names_no b m p e f =
     ⊎_elim (λ t. t)
     (λ g. absurd (both_ways (not b && eqb m p) (sym e) (and_from (not b) (eqb m p) (not_from_false b g) (eq-eqb m p f)))) (cases_Bool b)
 
+-- a value is bare just where it is shown and shares nothing with its row
+pub bare_yes : (b : Bool) (s : ℕ) → true ≡ (b && eqb s 0) → (b ≡ true) × (s ≡ 0)
+bare_yes b s e =
+    let h : (b ≡ true) × (eqb s 0 ≡ true) = and_parts b (eqb s 0) (sym e) in
+    (h.0, eqb-true s 0 h.1)
+
+pub bare_no : (b : Bool) (s : ℕ) → false ≡ (b && eqb s 0) → b ≡ true → s ≡ 0 → ⊥
+bare_no b s e h z = both_ways (b && eqb s 0) (sym e) (and_from b (eqb s 0) h (eq-eqb s 0 z))
+
 -- there is room for one more, since it comes back
 pub some_room : (d d' : Domains) (n limit : ℕ) → limit ≡ 2048 → n ≤ total d.sets → total d'.sets ≡ total d.sets + 1 → n < limit
 some_room d d' n limit e few more =

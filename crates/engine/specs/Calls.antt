@@ -11,15 +11,15 @@ use Rattle.domains.specs.declared.Justification.{Justification}
 use Rattle.domains.specs.Make.{no_justifications}
 use Rattle.domains.specs.Model.{within, is_present, left_of, right_of, arcs_of, shown, standing, total, reason_is}
 use Rattle.domains.specs.Sound.{Rose, Went}
-use Rattle.domains.specs.Stands.{last_time, with_present}
+use Rattle.domains.specs.Stands.{spent, with_present}
 
 -- can p go in: it is not in, has two different ends, and there is room and time
 abbrev pub can_add : Constraints → Domains → ℕ → ℕ → Bool
-can_add c d p room = nat_lt p 128 && (not (is_present c p) && (not (left_of c p == right_of c p) && (not (nat_lt room 128) && not (nat_lt last_time d.clock))))
+can_add c d p room = nat_lt p 128 && (not (is_present c p) && (not (left_of c p == right_of c p) && (not (nat_lt room 128) && not (spent d.clock))))
 
 -- can p go out: it is in, and there is room and time
 abbrev pub can_retract : Constraints → Domains → ℕ → ℕ → ℕ → Bool
-can_retract c d p room returning = nat_lt p 128 && (is_present c p && (not (nat_lt room 128) && (not (nat_lt returning 2048) && not (nat_lt last_time d.clock))))
+can_retract c d p room returning = nat_lt p 128 && (is_present c p && (not (nat_lt room 128) && (not (nat_lt returning 2048) && not (spent d.clock))))
 
 -- the shown values are the largest under the constraints, all others are justified, and the times are apart and below the clock
 pub record Right (c : Constraints) (d : Domains) : Type 0 where

@@ -4,7 +4,7 @@ ghost use Rattle.arcs.specs.Family.{Inside};
 ghost use Rattle.justify.specs.Changes.{PutBack, Released};
 ghost use Rattle.queue.specs.Waiting.{Kept, waits};
 ghost use Rattle.bits.specs.Bits.{has_bit};
-ghost use Rattle.domains.specs.Model.{arcs_of, entry, is_present, reason_is, shown, standing, total, within};
+ghost use Rattle.domains.specs.Model.{arcs_of, entry, is_present, reason_is, row, shown, standing, total, within};
 ghost use Rattle.domains.specs.Releasing.{Followed, Low, Releasing};
 ghost use Rattle.domains.specs.Sound.{Facing, Shape, Sound};
 ghost use Rattle.engine.specs.Returns.{FreesAmong, Grew, Roomy};
@@ -12,7 +12,7 @@ ghost use Rattle.engine.specs.Returns.{FreesAmong, Grew, Roomy};
 use crate::revise::arc_at;
 use crate::value::Value;
 use crate::values::put_back;
-use domains::{Constraints, Domains, Ends, Returning};
+use domains::{Arc, Constraints, Domains, Ends, Returning};
 use queue::Queue;
 
 // Is the value out, with a justification that names the constraint?
@@ -75,6 +75,15 @@ pub(crate) fn free_among(
     }
 }
 
+// The values of the arc's far variable that may stand beside the value of its near one.
+fn beside(c: &Constraints, arc: Arc, value: u8) -> u64
+    requires rows { arc.rows < 256 }
+    requires value { value < 64 }
+    ensures { result ≡ row c.now arc.rows value }
+{
+    c.rows[arc.rows][value as usize]
+}
+
 // Puts back every value which the value that came back stood beside, by a constraint that its justification names.
 pub(crate) fn free_beside(
     c: &Constraints,
@@ -92,8 +101,8 @@ pub(crate) fn free_beside(
 {
     for p in 0..128 {
         if let Some(arc) = arc_at(c, returning.variable as usize, p) {
-            let beside = c.rows[arc.rows][returning.value as usize];
-            free_among(c, d, q, arc.far, p, beside);
+            let among = beside(c, arc, returning.value);
+            free_among(c, d, q, arc.far, p, among);
         }
     }
 }

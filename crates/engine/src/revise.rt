@@ -1,6 +1,6 @@
 // One variable is held against the other end of one constraint.
-ghost use Rattle.std.specs.Prelude.{◌≡◌, ℕ, ◌+◌, ◌^◌, ◌<◌, ◌≤◌, true, false, not, MatchOption, ◌==◌};
-ghost use Rattle.domains.specs.Model.{arcs_of, total};
+ghost use Rattle.std.specs.Prelude.{◌≡◌, ℕ, ◌+◌, ◌^◌, ◌<◌, ◌≤◌, true, false, not, ◌&&◌, bit_and, MatchOption, ◌==◌};
+ghost use Rattle.domains.specs.Model.{arcs_of, shown, total};
 ghost use Rattle.domains.specs.Sound.{Facing, RevisedBelow, Revising, Shape, Sound, Went};
 
 use crate::value::Value;
@@ -37,6 +37,13 @@ pub(crate) fn arc_at(c: &Constraints, variable: usize, constraint: usize) -> Opt
     }
 }
 
+// Is the value shown, with none of the supports in its row?
+fn is_bare(d: &Domains, at: Value, row: u64, supports: u64) -> bool
+    ensures { result ≡ (shown d.now at.variable at.value && bit_and supports row == 0) }
+{
+    bits::has(d.sets[at.variable], at.value) && supports & row == 0
+}
+
 // Puts out exactly the values of the arc's near variable that have no support at the far one; says whether there were any.
 pub(crate) fn revise(c: &Constraints, d: &mut Domains, arc: Arc) -> bool
     requires facing { Facing c.now arc }
@@ -48,14 +55,12 @@ pub(crate) fn revise(c: &Constraints, d: &mut Domains, arc: Arc) -> bool
     let supports = d.sets[arc.far];
     let before = d.clock;
     for (x, row) in c.rows[arc.rows].iter().enumerate() {
-        if bits::has(d.sets[arc.near], x) {
-            if supports & *row == 0 {
-                let at = Value {
-                    variable: arc.near,
-                    value: x,
-                };
-                put_out(d, at, arc.constraint);
-            }
+        let at = Value {
+            variable: arc.near,
+            value: x,
+        };
+        if is_bare(d, at, *row, supports) {
+            put_out(d, at, arc.constraint);
         }
     }
     d.clock != before

@@ -1,5 +1,5 @@
 -- Which calls are refused, by which cause; and the book after a call that is not.
-use Rattle.domains.specs.Stands.{last_time}
+pub use Rattle.domains.specs.Stands.{spent}
 use Rattle.std.specs.Prelude.{ℕ, Bool, true, false, cond, not, ◌&&◌, ◌||◌, length, Some, None, Option, ◌==◌, nat_lt, slice_index}
 use Rattle.catalog.specs.Meaning.{Meaning}
 use Rattle.refusal.specs.declared.Refusal.{Refusal}
@@ -15,10 +15,6 @@ when b e = cond b (Some e) None
 -- there is room for fewer than 128 constraints or fewer than 2,048 values
 abbrev pub short : Rooms → Bool
 short r = nat_lt r.waiting 128 || nat_lt r.returning 2048
-
--- too few times are left for a change
-abbrev pub spent : ℕ → Bool
-spent clock = nat_lt last_time clock
 
 -- a short room comes before a spent clock
 abbrev pub lent_refusal : Rooms → Bool → Option Refusal

@@ -1,6 +1,6 @@
 -- Refused calls and askings, by what the code tests.
 use Rattle.std.proofs.Common.{◌≡◌, ℕ, ◌<◌, ◌≤◌, Bool, true, false, cond, not, ◌&&◌, ltb, length, get_or, take, Some, None, Option, sym, refl, ap, ◌∙◌, subst, arith}
-use Rattle.std.proofs.lemmas.Bool.{and_parts, lt-ltb, le-ltb, not-false}
+use Rattle.std.proofs.lemmas.Bool.{and_parts, not-false}
 use Rattle.arcs.specs.WipedOut.{WipedOut}
 use Rattle.bits.specs.Bits.{has_bit}
 use Rattle.catalog.specs.Meaning.{Meaning, Lawful}
@@ -50,11 +50,8 @@ module _ (m : Meaning) (lawful : Lawful m) (s : State) (linked : Linked m s) whe
   size : (i : ℕ) → get_or (moment_of s).book.sizes i 0 ≡ get_or s.engine.constraints.sizes i 0
   size i = same_size m lawful s.engine.constraints s.variables s.known linked i
 
-  there : (i : ℕ) → i < s.variables → ltb i (length (moment_of s).book.sizes) ≡ true
-  there i h = lt-ltb i (length (moment_of s).book.sizes) (subst (λ n. i < n) (sym as_many) h)
-
-  nowhere : (i : ℕ) → s.variables ≤ i → ltb i (length (moment_of s).book.sizes) ≡ false
-  nowhere i h = le-ltb i (length (moment_of s).book.sizes) (subst (λ n. n ≤ i) (sym as_many) h)
+  as_there : (i : ℕ) → ltb i (length (moment_of s).book.sizes) ≡ ltb i s.variables
+  as_there i = ap (ltb i) as_many
 
   no_value : (b : Bool) → b ≡ false → cond (not b) (Some NoSuchValue) None ≡ Some NoSuchValue
   no_value b e = ap (λ t. cond (not t) (Some NoSuchValue) None) e
@@ -62,12 +59,12 @@ module _ (m : Meaning) (lawful : Lawful m) (s : State) (linked : Linked m s) whe
   a_value : (b : Bool) → b ≡ true → cond (not b) (Some NoSuchValue) None ≡ None
   a_value b e = ap (λ t. cond (not t) (Some NoSuchValue) None) e
 
-  pub domain_no : (i : ℕ) → s.variables ≤ i → Took m s (asks_domain i) (Refused NoSuchValue) s
-  domain_no i h = refused (asks_domain i) NoSuchValue (no_value (ltb i (length (moment_of s).book.sizes)) (nowhere i h))
+  pub domain_no : (i : ℕ) → false ≡ ltb i s.variables → Took m s (asks_domain i) (Refused NoSuchValue) s
+  domain_no i h = refused (asks_domain i) NoSuchValue (no_value (ltb i (length (moment_of s).book.sizes)) (as_there i ∙ sym h))
 
-  pub domain_yes : (i d : ℕ) → i < s.variables → d ≡ get_or s.engine.domains.sets i 0 → Took m s (asks_domain i) (Domain d) s
+  pub domain_yes : (i d : ℕ) → true ≡ ltb i s.variables → d ≡ get_or s.engine.domains.sets i 0 → Took m s (asks_domain i) (Domain d) s
   domain_yes i d h e =
-      asked (asks_domain i) (Domain d) (a_value (ltb i (length (moment_of s).book.sizes)) (there i h)) (agrees_refl (moment_of s).book) (refl, (d, refl, λ x. ap (λ v. has_bit v x) e))
+      asked (asks_domain i) (Domain d) (a_value (ltb i (length (moment_of s).book.sizes)) (as_there i ∙ sym h)) (agrees_refl (moment_of s).book) (refl, (d, refl, λ x. ap (λ v. has_bit v x) e))
 
   pub wiped_yes : (o : Option ℕ) → WipedOut (shown s.engine.domains) s.variables o → Took m s asks_wiped (Wiped o) s
   wiped_yes o w =

@@ -1,4 +1,4 @@
-ghost use Rattle.std.specs.Prelude.{◌≡◌, ℕ, ◌<◌, false, slice_index};
+ghost use Rattle.std.specs.Prelude.{◌≡◌, ℕ, ◌<◌, false, ◌==◌, slice_index};
 ghost use Rattle.arcs.specs.WipedOut.{WipedOut};
 ghost use Rattle.domains.specs.Model.{entry, is_present, shown};
 ghost use Rattle.engine.specs.Calls.{justification_of};
@@ -61,11 +61,18 @@ impl Engine {
         Some(read(&self.domains, Value { variable, value }))
     }
 
+    // Has the variable no value left?
+    fn is_empty(&self, variable: usize) -> bool
+        ensures { result ≡ (slice_index self.now.domains.sets variable == 0) }
+    {
+        self.domain(variable) == 0
+    }
+
     // The lowest of the first n variables that has no value left. Not by the crate `wiped`, whose domains are a list: n may pass the 32 variables here,
     // and past them no value is left.
     pub fn wiped_out(&self, n: usize) -> Option<usize>
         ensures { WipedOut (shown self.now.domains) n result }
     {
-        (0..n).find(|i| self.domain(*i) == 0)
+        (0..n).find(|i| self.is_empty(*i))
     }
 }

@@ -4,7 +4,7 @@ ghost use Rattle.domains.specs.Stands.{Past, Stands};
 ghost use Rattle.engine.specs.Calls.{Added, Retracted, can_add, can_retract};
 
 use super::Engine;
-use domains::{Domains, Ends, LAST_TIME, Returning};
+use domains::{Domains, Ends, Returning, is_spent};
 
 // How many values are shown. A `for`: with `map` and `sum` it was tried, and the bound that `sum` asks did not close.
 fn count(d: &Domains) -> u32
@@ -29,7 +29,7 @@ impl Engine {
         if self.constraints.present[constraint] || left == right {
             return false;
         }
-        room >= 128 && self.domains.clock <= LAST_TIME
+        room >= 128 && !is_spent(self.domains.clock)
     }
 
     // May it go out?
@@ -39,7 +39,7 @@ impl Engine {
         if constraint >= 128 || !self.constraints.present[constraint] {
             return false;
         }
-        room >= 128 && returning >= 2048 && self.domains.clock <= LAST_TIME
+        room >= 128 && returning >= 2048 && !is_spent(self.domains.clock)
     }
 
     // Puts the constraint in and says how many values went out, or nothing where it cannot go in.

@@ -1,13 +1,15 @@
 ghost use Rattle.std.specs.Prelude.{◌≡◌, ℕ, ◌+◌, ◌<◌, ◌≤◌, true, false, ◌⊎◌, length, IfOk, MatchBool, is_ok, slice_index};
 ghost use Rattle.std.specs.Result.{result_err};
-ghost use Rattle.domains.specs.Make.{no_constraints, no_domains};
+ghost use Rattle.domains.specs.Make.{no_constraints, no_domains, no_justifications};
 ghost use Rattle.domains.specs.Stands.{Loaded};
 ghost use Rattle.domains.specs.Sound.{Shape};
 ghost use Rattle.engine.specs.Calls.{Loadable, Opened, can_load, load_fault};
 
 use super::Engine;
 use crate::fault::LoadFault;
-use domains::{Constraints, Ends, capped, full, no_constraints, no_domains, no_justifications};
+use domains::{
+    Constraints, Domains, Ends, capped, full, no_constraints, no_domains, no_justifications,
+};
 
 // May the constraint be given these ends? They are two numbers still, which only the test shows to be ends.
 fn check_load(
@@ -50,6 +52,17 @@ fn write(c: &mut Constraints, constraint: usize, ends: Ends, rows: &[u64; 64])
     c.rows[2 * constraint + 1] = turned;
 }
 
+// Shows these sets from this time on, with justifications that say nothing.
+fn begin(d: &mut Domains, sets: [u64; 32], time: u32)
+    ensures sets { d.new.sets ≡ sets }
+    ensures why { d.new.why ≡ no_justifications }
+    ensures clock { d.new.clock ≡ time }
+{
+    d.sets = sets;
+    d.why = no_justifications();
+    d.clock = time;
+}
+
 impl Engine {
     // No variables, no constraint in, at time 0.
     pub fn new() -> Engine
@@ -68,12 +81,9 @@ impl Engine {
     {
         let sizes = capped(sizes);
         let sets = full(&sizes);
-        let why = no_justifications();
         self.constraints.sizes = sizes;
         self.constraints.present = [false; 128];
-        self.domains.sets = sets;
-        self.domains.why = why;
-        self.domains.clock = time;
+        begin(&mut self.domains, sets, time);
     }
 
     // Gives a constraint that is not in its two ends and, for each value of the left one, the set of those that may stand beside it.

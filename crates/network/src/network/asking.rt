@@ -1,5 +1,7 @@
 // What can be asked of a network.
 ghost use Rattle.std.specs.Prelude.{◌≡◌};
+ghost use Rattle.arcs.specs.WipedOut.{WipedOut};
+ghost use Rattle.domains.specs.Model.{shown};
 ghost use Rattle.network_law.specs.Calls.{asks_domain, asks_justification, asks_shown, asks_wiped};
 ghost use Rattle.network_law.specs.declared.Answer.TheVariants.{Domain, Justified, Shown, Wiped};
 ghost use Rattle.network.specs.Served.{Serves};
@@ -15,10 +17,17 @@ impl<C: Catalog> Network<C> {
     pub fn domain(&self, variable: usize) -> Result<u64, Refusal>
         ensures { Serves C.Catalog.meaning self.now (asks_domain variable) (answer_by Domain result) self.now }
     {
-        if variable >= self.state.variables {
+        if !self.has_variable(variable) {
             return Err(Refusal::NoSuchValue);
         }
         Ok(self.state.engine.domain(variable))
+    }
+
+    // Does the engine show the value?
+    fn shows(&self, variable: usize, value: usize) -> bool
+        ensures { result ≡ shown self.now.state.engine.domains variable value }
+    {
+        bits::has(self.state.engine.domain(variable), value)
     }
 
     // Is the value shown?
@@ -26,7 +35,7 @@ impl<C: Catalog> Network<C> {
         ensures { Serves C.Catalog.meaning self.now (asks_shown variable value) (answer_by Shown result) self.now }
     {
         self.check_value(variable, value)?;
-        Ok(bits::has(self.state.engine.domain(variable), value))
+        Ok(self.shows(variable, value))
     }
 
     // Why the value is out, or nothing where it is shown.
@@ -41,10 +50,17 @@ impl<C: Catalog> Network<C> {
         Ok(self.state.engine.justification(variable, value))
     }
 
+    // The lowest of the variables of which the engine shows no value.
+    pub(super) fn lowest_empty(&self) -> Option<usize>
+        ensures { WipedOut (shown self.now.state.engine.domains) self.now.state.variables result }
+    {
+        self.state.engine.wiped_out(self.state.variables)
+    }
+
     // The lowest variable with no value left, if there is one.
     pub fn wiped_out(&self) -> Option<usize>
         ensures { Serves C.Catalog.meaning self.now asks_wiped (Wiped result) self.now }
     {
-        self.state.engine.wiped_out(self.state.variables)
+        self.lowest_empty()
     }
 }

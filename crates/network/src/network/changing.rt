@@ -33,7 +33,7 @@ impl<C: Catalog> Network<C> {
             .engine
             .add(constraint, waiting)
             .ok_or(Refusal::EndOutside)?;
-        let wiped = self.state.engine.wiped_out(self.state.variables);
+        let wiped = self.lowest_empty();
         Ok(Change { values, wiped })
     }
 
@@ -57,7 +57,7 @@ impl<C: Catalog> Network<C> {
             .engine
             .retract(constraint, waiting, returning)
             .ok_or(Refusal::NotIn)?;
-        let wiped = self.state.engine.wiped_out(self.state.variables);
+        let wiped = self.lowest_empty();
         Ok(Change { values, wiped })
     }
 

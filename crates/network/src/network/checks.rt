@@ -1,5 +1,5 @@
 // Whether a call may be answered.
-ghost use Rattle.std.specs.Prelude.{◌≡◌, IfOk, Some};
+ghost use Rattle.std.specs.Prelude.{◌≡◌, IfOk, Some, nat_lt};
 ghost use Rattle.catalog.specs.Meaning.{ends_of};
 ghost use Rattle.network_law.specs.Refusals.{lent_refusal, spent};
 ghost use Rattle.network_model.specs.Performs.{add_cause, retract_cause, value_cause};
@@ -7,7 +7,7 @@ ghost use Rattle.std.specs.Result.{result_err};
 
 use super::Network;
 use catalog::Catalog;
-use domains::LAST_TIME;
+use domains::is_spent;
 use refusal::Refusal;
 use refusal::checks::check_constraint;
 
@@ -25,7 +25,7 @@ fn check_lent(lengths: Lengths, clock: u32) -> Result<(), Refusal>
     if lengths.waiting < 128 || lengths.returning < 2048 {
         return Err(Refusal::ShortBuffer);
     }
-    if clock > LAST_TIME {
+    if is_spent(clock) {
         return Err(Refusal::ClockSpent);
     }
     Ok(())
@@ -62,11 +62,18 @@ impl<C: Catalog> Network<C> {
         check_lent(lengths, self.state.engine.clock())
     }
 
+    // Is there such a variable?
+    pub(super) fn has_variable(&self, variable: usize) -> bool
+        ensures { result ≡ nat_lt variable self.now.state.variables }
+    {
+        variable < self.state.variables
+    }
+
     // Is it a value of one of the variables?
     pub(super) fn check_value(&self, variable: usize, value: usize) -> Result<(), Refusal>
         ensures { result_err result ≡ value_cause self.now.state variable value }
     {
-        if variable >= self.state.variables {
+        if !self.has_variable(variable) {
             return Err(Refusal::NoSuchValue);
         }
         if value >= self.state.engine.size(variable) {

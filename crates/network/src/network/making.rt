@@ -1,5 +1,6 @@
 // A network is made, and opened.
-ghost use Rattle.std.specs.Prelude.{◌≡◌, ℕ, ◌<◌, ◌≤◌, None, length, slice_index, IfOk, OnErr};
+ghost use Rattle.std.specs.Prelude.{◌≡◌, ℕ, ◌<◌, ◌≤◌, false, None, length, replicate, slice_index, IfOk, OnErr};
+ghost use Rattle.domains.specs.Make.{no_constraints, no_domains};
 ghost use Rattle.std.specs.Result.{result_err};
 ghost use Rattle.network_law.specs.Calls.{opens};
 ghost use Rattle.network_law.specs.Moment.{Blank, Right};
@@ -42,6 +43,20 @@ fn narrow(sizes: &[usize]) -> [u8; 32]
     all_sizes(sizes)
 }
 
+// No variables, no constraint in, and none known.
+fn nothing() -> State
+    ensures constraints { result.engine.constraints ≡ no_constraints }
+    ensures domains { result.engine.domains ≡ no_domains }
+    ensures variables { result.variables ≡ 0 }
+    ensures known { result.known ≡ replicate 128 false }
+{
+    State {
+        engine: Engine::new(),
+        variables: 0,
+        known: [false; 128],
+    }
+}
+
 impl<C: Catalog> Network<C> {
     // A network with no variables, and no constraint in, at time 0. Everything stands rightly in it.
     pub fn new(catalog: C) -> Network<C>
@@ -50,12 +65,10 @@ impl<C: Catalog> Network<C> {
         ensures blank { Blank (moment_of result.state) }
         ensures right { Right (C.Catalog.meaning catalog) (moment_of result.state) }
     {
-        let state = State {
-            engine: Engine::new(),
-            variables: 0,
-            known: [false; 128],
-        };
-        Network { catalog, state }
+        Network {
+            catalog,
+            state: nothing(),
+        }
     }
 
     // Opens the network: variables of these sizes, every value shown, no constraint in, and the clock at this time.

@@ -18,7 +18,7 @@ loop-p-preserved c =
       | in-Some w ↦
           subst₂ P (sym w.d-is) (sym w.q-is)
           (beside_more n d c.loop-p.d w.free_among.new.d q c.loop-p.q w.free_among.new.q v p w.in-Some.arc c.requires.shape
-          w.in-Some.ensures.0 w.in-Some.ensures.1 w.in-Some.ensures.2 c.requires.value
+          w.in-Some.ensures.0 w.in-Some.ensures.1 w.in-Some.ensures.2 c.requires.value w.beside-among.result w.beside-among.ensures
           w.free_among.ensures.roomy w.free_among.ensures.grew w.free_among.ensures.frees w.free_among.ensures.freed c.loop-p.invariant)
       | in_default w ↦
           subst₂ P (sym w.d-is) (sym w.q-is)

@@ -1,16 +1,16 @@
-use Rattle.std.proofs.Common.{◌≡◌, ◌+◌, ◌<◌, true, sym, subst, arith}
-use Rattle.std.proofs.lemmas.Bool.{both_ways}
+use Rattle.std.proofs.Common.{◌≡◌, ◌+◌, ◌<◌, true, bit_and, get_or, subst, sym, arith}
 use Rattle.domains.specs.declared.Domains.{Domains}
-use Rattle.domains.specs.Model.{shown}
+use Rattle.domains.specs.Model.{row, shown}
 use Rattle.domains.specs.Sound.{Revising}
 use Rattle.domains.proofs.Revise.{total_positive, support_yes, support_no, revising_keep, revising_out}
+use Rattle.engine.proofs.Frees.{bare_no, bare_yes}
 use Rattle.engine.proofs.revise.revise.Goals as goal
-use Rattle.engine.proofs.revise.revise.Goals.{then-has+then-supports-row-eq0, then-has+else-supports-row-eq0, else-has}
+use Rattle.engine.proofs.revise.revise.Goals.{then-is_bare, else-is_bare}
 
 pub put_out-requires : goal.put_out-requires
 put_out-requires c =
     let low : c.loop-x.x < 64 = omega (arith, c.loop-x-test.true, c.args.c.now.each_row_long c.args.arc.rows c.requires.facing.rows_low) in
-    let was : shown c.loop-x.d c.args.arc.near c.loop-x.x ≡ true = sym c.if-has.ensures in
+    let was : shown c.loop-x.d c.args.arc.near c.loop-x.x ≡ true = (bare_yes _ _ c.if-is_bare.ensures).0 in
     let some = total_positive c.loop-x.d c.args.arc.near c.loop-x.x c.requires.facing.near_low low was in
     record {
       time = omega (arith, some, c.loop-x.invariant.went.spent, c.requires.time);
@@ -25,18 +25,16 @@ loop-x-preserved c =
     let x = c.loop-x.x in
     let low : c.loop-x.x < 64 = omega (arith, c.loop-x-test.true, n.each_row_long a.rows c.requires.facing.rows_low) in
     let P : Domains → Type 0 = λ e. Revising n d e a (x + 1) in
-    elim c.if-has.branch [
-      | then-has+then-supports-row-eq0 w ↦
+    elim c.if-is_bare.branch [
+      | then-is_bare w ↦
           subst P (sym w.d-is)
           (revising_out n d c.loop-x.d w.put_out.new.d a x c.requires.facing c.loop-x.invariant w.put_out.ensures.put
-          (support_no n d a c.requires.facing x low w.if-supports-row-eq0.true)
+          (support_no n d a c.requires.facing x low (bare_yes _ _ w.if-is_bare.ensures).1)
           w.put_out.ensures.clock w.put_out.ensures.fewer w.put_out.ensures.others)
-      | then-has+else-supports-row-eq0 w ↦
+      | else-is_bare w ↦
           subst P (sym w.d-is)
           (revising_keep n d c.loop-x.d a x
-          (λ _. support_yes n d a c.requires.facing x low (omega (arith, w.if-supports-row-eq0.false)))
+          (λ h. support_yes n d a c.requires.facing x low
+          (let none : bit_and (get_or d.sets a.far 0) (row n a.rows x) ≡ 0 → ⊥ = bare_no _ _ w.if-is_bare.ensures h in omega (arith, none)))
           c.loop-x.invariant)
-      | else-has w ↦
-          subst P (sym w.d-is)
-          (revising_keep n d c.loop-x.d a x (λ h. absurd (both_ways _ (sym w.if-has.ensures) h)) c.loop-x.invariant)
     ]

@@ -2,12 +2,6 @@ use Rattle.std.proofs.Common.{rules}
 use Rattle.engine.proofs.Start.{past_kept}
 use Rattle.engine.proofs.state.change.release_through.Goals as goal
 
-pub returns : goal.returns
-returns c =
-    record {
-      released = c.release.ensures.released;
-      inside = c.release.ensures.inside;
-      clock = c.release.ensures.clock;
-      past =
-          past_kept c.new-q.result c.release.new.q c.args.returning.now _ 2048 c.new-q.ensures.over.filled c.release.ensures.kept c.new-q.ensures.limit c.requires.room (search rules);
-    }
+pub returns-clause-past : goal.returns-clause-past
+returns-clause-past c =
+    past_kept c.new-q.result c.release.new.q c.args.returning.now _ 2048 c.new-q.ensures.over.filled c.release.ensures.kept c.new-q.ensures.limit c.requires.room (search rules)

@@ -1,5 +1,4 @@
 use Rattle.std.proofs.Common.{Some, ap, ◌∙◌}
-use Rattle.bits.specs.Bits.{has_bit}
 use Rattle.std.proofs.lemmas.Result.{err_from_is_err_and}
 use Rattle.network_model.proofs.Asking.{shown_no, shown_yes}
 use Rattle.network.proofs.network.Network.is_shown.Goals as goal
@@ -15,5 +14,5 @@ pub returns : goal.returns
 returns g c =
     λ linked.
     let n = c.args.self.now in
-    shown_yes (g.C.Catalog.meaning n.catalog) (g.C.Catalog.lawful n.catalog) n.state linked c.args.variable c.args.value c.has.result c.in_ok-check_value.ensures
-    (c.has.ensures ∙ ap (λ d. has_bit d c.args.value) c.domain.ensures)
+    shown_yes (g.C.Catalog.meaning n.catalog) (g.C.Catalog.lawful n.catalog) n.state linked c.args.variable c.args.value c.shows.result c.in_ok-check_value.ensures
+    c.shows.ensures

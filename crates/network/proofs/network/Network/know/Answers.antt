@@ -12,6 +12,6 @@ returns-then-not-self-constraint g c =
           let m = g.C.Catalog.meaning c.args.self.now.catalog in
           learnt m (g.C.Catalog.lawful c.args.self.now.catalog) c.args.constraint c.args.left c.args.right c.requires.ends
           c.args.self.now.state _ c.rows-rows.result (is_ok c.load-loaded.result) c.requires.absent c.load-loaded.ensures.can c.load-loaded.ensures.loaded c.load-loaded.ensures.domains refl (search rules)
-          (λ x y hx hy. grind (arith, common_steps, c.rows-rows.ensures x y, c.size.ensures, c.size-then-not-self-constraint.ensures))
+          (λ x y hx hy. grind (arith, common_steps, c.rows-rows.ensures x y))
           linked;
     }

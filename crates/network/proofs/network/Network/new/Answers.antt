@@ -1,5 +1,7 @@
-use Rattle.std.proofs.Common.{refl}
+use Rattle.std.proofs.Common.{ℕ, List, Bool, sym, refl, subst}
 use Rattle.engine.proofs.Called.{right_now, stood}
+use Rattle.network_law.specs.Moment.{Blank}
+use Rattle.network_model.specs.Model.{Links, moment}
 use Rattle.network_model.proofs.Opening.{links_new, blank_new}
 use Rattle.network_model.proofs.Steps.{right_here}
 use Rattle.network.proofs.network.Network.new.Goals as goal
@@ -7,13 +9,16 @@ use Rattle.network.proofs.network.Network.new.Goals as goal
 pub returns : goal.returns
 returns g c =
     let m = g.C.Catalog.meaning c.args.catalog in
-    let engine = c.new.result in
-    let linked = links_new m engine.constraints _ c.new.ensures.constraints refl in
+    let made = c.nothing in
+    let state = made.result in
+    let k = state.engine.constraints in
+    let d = state.engine.domains in
+    let linked =
+    subst (λ n. Links m k n state.known) (sym made.ensures.variables) (links_new m k state.known made.ensures.constraints made.ensures.known)
+    in
     record {
       catalog = refl;
       linked = linked;
-      blank = blank_new engine.constraints engine.domains c.new.ensures.constraints c.new.ensures.domains;
-      right =
-          right_here m (g.C.Catalog.lawful c.args.catalog) engine.constraints engine.domains 0 _ linked
-          (right_now engine.constraints engine.domains (stood engine));
+      blank = subst (λ n. Blank (moment k d n)) (sym made.ensures.variables) (blank_new k d made.ensures.constraints made.ensures.domains);
+      right = right_here m (g.C.Catalog.lawful c.args.catalog) k d state.variables state.known linked (right_now k d (stood state.engine));
     }

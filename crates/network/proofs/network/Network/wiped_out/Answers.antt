@@ -5,4 +5,4 @@ pub returns : goal.returns
 returns g c =
     λ linked.
     let n = c.args.self.now in
-    wiped_yes (g.C.Catalog.meaning n.catalog) (g.C.Catalog.lawful n.catalog) n.state linked c.wiped_out.result c.wiped_out.ensures
+    wiped_yes (g.C.Catalog.meaning n.catalog) (g.C.Catalog.lawful n.catalog) n.state linked c.lowest_empty.result c.lowest_empty.ensures
