@@ -1,5 +1,5 @@
 -- What a judged record makes of a writer.
-use Rattle.std.proofs.Common.{◌≡◌, ℕ, ◌+◌, ◌≤◌, Bool, true, false, cond, not, Ok, Err, Result, Some, sym, refl, ap, ◌∙◌, subst, arith}
+use Rattle.std.proofs.Common.{◌≡◌, ℕ, ◌+◌, ◌≤◌, Bool, true, false, cond, not, Ok, Err, Result, sym, refl, ap, ◌∙◌, subst, arith}
 use Rattle.sheet_format.specs.declared.writing.WriteFault.{WriteFault}
 use Rattle.sheet_format.specs.declared.writing.WriteFault.TheVariants.{NoRoom, Closed}
 use Rattle.sheet_format.specs.Reading.{Shown}
@@ -10,9 +10,6 @@ use Rattle.sheet.specs.declared.progress.Next.TheVariants.{Heading, Variable, Co
 use Rattle.sheet.specs.Steps.{is_end, kept, next_step, Fits, Became}
 use Rattle.sheet.specs.Sizes.{SizesLow}
 use Rattle.sheet.proofs.Limits.{low_push}
-
-pub same_shown : (s t : Shown) → Some s ≡ Some t → s ≡ t
-same_shown s t e = cc
 
 opened : (p : Pen) (b : Bool) (r s : Result Pen WriteFault) → b ≡ true → r ≡ s → cond b r (Err Closed) ≡ s
 opened p true r s e f = f

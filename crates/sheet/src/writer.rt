@@ -1,5 +1,5 @@
 // Writing a sheet, one record at a time, into a buffer that each call is lent.
-ghost use Rattle.std.specs.Prelude.{◌≡◌, ℕ, List, ◌+◌, ◌<◌, ◌≤◌, true, false, ◌∷◌, ◌++◌, length, Some};
+ghost use Rattle.std.specs.Prelude.{◌≡◌, ℕ, List, ◌+◌, ◌<◌, ◌≤◌, true, false, ◌∷◌, ◌++◌, length};
 ghost use Rattle.sheet_format.specs.Kinds.{kind_number};
 ghost use Rattle.sheet_format.specs.Value.{sum, table, add, retract};
 ghost use Rattle.sheet_format.specs.Encoding.{framed, heading_record, variable_record, constraint_record};
@@ -10,9 +10,8 @@ ghost use Rattle.std.proofs.Common.{of_z};
 ghost use Rattle.std.specs.Int.{w16, w32};
 ghost use Rattle.sheet_format.specs.Beginnings.{Begun, nothing_begun};
 ghost use Rattle.sheet_format.specs.Written.{Written, Grows};
-ghost use Rattle.sheet_format.specs.Reading.{Shown, shown};
 ghost use Rattle.sheet.specs.Sizes.{SizesLow};
-ghost use Rattle.sheet_format.specs.Writing.{Pen, new_pen, heads, has_variable, has_constraint, has_move, ends_here, lies_in, laid, Puts, PutsEntry, Abandons};
+ghost use Rattle.sheet_format.specs.Writing.{Pen, new_pen, heads, has_variable, has_constraint, has_move, ends_here, lies_in, laid, PutsRecord, PutsEntry, Abandons};
 
 use crate::formula::Formula;
 use crate::progress::Progress;
@@ -173,13 +172,8 @@ impl Writer {
     }
 
     // a record of a kind, which is judged as the check judges what the reader takes off
-    pub(crate) fn put(
-        &mut self,
-        buffer: &mut [u8],
-        kind: Kind,
-        body: &[u8],
-    ) -> Result<usize, WriteFault>
-        ensures { (s : Shown) → shown (kind_number kind) body.now self.old.place ≡ Some s → Puts self.old buffer.old s (framed (record { kind = kind_number kind; body = body.now })) self.new buffer.new result }
+    fn put(&mut self, buffer: &mut [u8], kind: Kind, body: &[u8]) -> Result<usize, WriteFault>
+        ensures { PutsRecord self.old buffer.old (record { kind = kind_number kind; body = body.now }) self.new buffer.new result }
     {
         if !self.is_open {
             return Err(WriteFault::Closed);
