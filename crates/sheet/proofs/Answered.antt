@@ -14,7 +14,7 @@ use Rattle.sheet.specs.declared.reader.Record.{Record}
 use Rattle.sheet.specs.Outcome.{shown_by, TookFrom, Answers}
 use Rattle.sheet.specs.Advance.{Onward, after_record}
 
-left_shorter : (xs : List ℕ) (place : ℕ) (s : Shown) (rest : List ℕ) → reading xs place ≡ taken s rest → length rest + 4 ≤ length xs
+pub left_shorter : (xs : List ℕ) (place : ℕ) (s : Shown) (rest : List ℕ) → reading xs place ≡ taken s rest → length rest + 4 ≤ length xs
 left_shorter xs place s rest e =
     let t : Took xs place s rest = took xs place s rest e in
     let k : length rest ≡ length xs - t.long = ap length t.leaves ∙ length-drop t.long xs in

@@ -1,5 +1,5 @@
 -- The rows of a table as chunks of eight bytes, and what a shift leaves of a row.
-use Rattle.std.proofs.Common.{◌≡◌, ℕ, zero, suc, ◌*◌, ◌<◌, ◌≤◌, ◌/◌, ◌^◌, true, ◌&&◌, eqb, ltb, List, length, take, drop, refl, sym, ap, ◌∙◌, ⊎_elim, le_trans, w64, get_or, lit<, arith, pow_pos, pow_mono}
+use Rattle.std.proofs.Common.{◌≡◌, ℕ, zero, suc, ◌*◌, ◌<◌, ◌≤◌, ◌/◌, ◌^◌, true, ◌&&◌, eqb, ltb, List, [], ◌∷◌, ◌++◌, length, take, drop, refl, sym, ap, ◌∙◌, ⊎_elim, le_trans, w64, get_or, lit<, arith, pow_pos, pow_mono}
 use Rattle.std.specs.Int.{from_le_bytes}
 use Rattle.std.specs.List.{list_all}
 use Rattle.std.specs.Simd.{first_chunks}
@@ -8,6 +8,8 @@ use Rattle.std.proofs.lemmas.List.{get_or-take}
 use Rattle.std.proofs.lemmas.Nat.{div_below, le-div}
 use Rattle.sheet_format.specs.Numbers.{number8}
 use Rattle.sheet_format.specs.Verdict.{rows_good}
+use Rattle.sheet_format.specs.Decoding.{rows_in}
+use Rattle.sheet_law.proofs.NumberLaws.{number8-drop}
 
 -- the row that the first eight bytes are
 pub first_row : (xs : List ℕ) → from_le_bytes w64 (take 8 xs) ≡ number8 xs 0
@@ -52,3 +54,15 @@ fits_shift row size = ⊎_elim below above (cases_lt row (2 ^ size))
 
 pub fits_wide : (row size : ℕ) → row < 2 ^ 64 → 64 ≤ size → ltb row (2 ^ size) ≡ true
 fits_wide row size h l = lt-ltb row (2 ^ size) (le_trans h (pow_mono l))
+
+-- one row more of those that stand in some bytes
+pub rows_more : (k : ℕ) (xs : List ℕ) → rows_in (suc k) xs ≡ rows_in k xs ++ (number8 xs (8 * k) ∷ [])
+unfolding rows_in
+rows_more zero xs = refl
+rows_more (suc k) xs =
+    ap (λ ys. number8 xs 0 ∷ ys)
+    (rows_more k (drop 8 xs) ∙ ap (λ n. rows_in k (drop 8 xs) ++ (n ∷ [])) (number8-drop xs 8 (8 * k) ∙ ap (number8 xs) (omega arith)))
+
+pub no_rows : (xs : List ℕ) → rows_in 0 xs ≡ []
+unfolding rows_in
+no_rows xs = refl

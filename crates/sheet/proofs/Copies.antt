@@ -1,32 +1,37 @@
 -- One record more of a sheet that is put into a buffer.
-use Rattle.std.proofs.Common.{◌≡◌, ℕ, zero, suc, ◌+◌, ◌-◌, ◌<◌, ◌≤◌, min, Bool, true, false, cond, not, ◌&&◌, eqb, ltb, List, [], ◌++◌, length, take, drop, Some, Ok, Err, Result, sym, refl, ap, ◌∙◌, subst, ⊎_elim, inl, inr, ◌⊎◌, arith}
+use Rattle.std.proofs.Common.{◌≡◌, ℕ, zero, suc, ◌+◌, ◌-◌, ◌<◌, ◌≤◌, min, Bool, true, false, cond, not, ◌&&◌, eqb, ltb, List, [], ◌++◌, length, drop, Some, Ok, Err, Result, sym, refl, ap, ◌∙◌, subst, ⊎_elim, inl, inr, ◌⊎◌, arith}
 use Rattle.std.specs.List.{flat_map}
+use Rattle.std.specs.Result.{IsOk}
+use Rattle.sheet_format.specs.declared.faults.Fault.{Fault}
 use Rattle.std.proofs.ByRecursion.{All-drop}
-use Rattle.std.proofs.lemmas.List.{append_assoc, append-nil, length-append, length-drop, length-take, nil_from_length}
+use Rattle.std.proofs.lemmas.List.{append_assoc, append-nil, length-append, length-drop, nil_from_length}
 use Rattle.std.proofs.lemmas.Bool.{eqb-true, ltb-true, ltb-false}
 use Rattle.sheet_format.specs.declared.found.Summary.{Summary}
 use Rattle.sheet_format.specs.declared.faults.Cause.TheVariants.{TooLong, Trailing}
 use Rattle.sheet_format.specs.declared.faults.SheetFault.{SheetFault}
-use Rattle.sheet_format.specs.declared.kinds.Kind.{Kind}
-use Rattle.sheet_format.specs.declared.kinds.Kind.TheVariants.{Heading, Variable, Sum, Table, Add, Retract, End}
+use Rattle.sheet_format.specs.declared.faults.RecordCause.{RecordCause}
 use Rattle.sheet_format.specs.declared.writing.WriteFault.{WriteFault}
 use Rattle.sheet_format.specs.declared.writing.WriteFault.TheVariants.{NoRoom, Closed}
-use Rattle.sheet_format.specs.Numbers.{number2}
-use Rattle.sheet_format.specs.Kinds.{kind_number}
 use Rattle.sheet_format.specs.Encoding.{Raw, framed}
 use Rattle.sheet_format.specs.Beginnings.{Begun, records_begun, bytes_begun, Keeps, begun_tally, nothing_begun}
-use Rattle.sheet_format.specs.Reading.{Shown, shows_heading, shows_variable, shows_sum, shows_table, shows_short_table, shows_add, shows_retract, shows_end, shown, Reading, taken, broken, reading}
+use Rattle.sheet_format.specs.Reading.{Shown, shown, Reading, taken, broken, reading}
 use Rattle.sheet_format.specs.Verdict.{Tally, nothing_yet, Step, goes, ends, stops, step, summary, Verdict, format_fault, after_step, after_reading, walked}
-use Rattle.sheet_format.specs.Writing.{Pen, new_pen, lies_in, put_step, put, laid, Puts}
+use Rattle.sheet_format.specs.Writing.{entry_record, Pen, new_pen, lies_in, put_step, put, laid, Puts, PutsRecord, PutsEntry}
 use Rattle.sheet_law.proofs.NumberLaws.{Bytes}
-use Rattle.sheet_law.proofs.Framing.{Short, took, Framed, framed_again, framed_first, body_cut}
-use Rattle.sheet_law.proofs.Held.{GoesHeld, goes_held}
+use Rattle.sheet_law.proofs.Framing.{Short, took, Framed, framed_again, framed_first}
+use Rattle.sheet_law.proofs.Held.{GoesHeld, goes_held, end_held}
 use Rattle.sheet_law.proofs.Shows.{KindIs, kind_is}
 use Rattle.sheet_law.proofs.Tallies.{past, bytes_more, place_more}
 use Rattle.sheet_law.proofs.Extending.{Extends, extends}
 use Rattle.sheet_law.proofs.Laws.{nothing_keeps}
 use Rattle.sheet_law.proofs.Growing.{Put, put_on, put_end, put_is, lies_is}
-use Rattle.sheet.specs.Copying.{IsAccepted, HasRecord, CutShort, Copied}
+use Rattle.sheet.specs.Sizes.{SizesLow}
+use Rattle.sheet.specs.declared.reader.Part.{Part}
+use Rattle.sheet.specs.declared.reader.Record.{Record}
+use Rattle.sheet.specs.Outcome.{TookFrom, Answers}
+use Rattle.sheet.specs.Copying.{IsAccepted, Sayable, entry_in, CutShort, Copied}
+use Rattle.sheet.proofs.Again.{Sound, valid_low, goes_sound, end_sound}
+use Rattle.sheet.proofs.Entries.{same_shown}
 use Rattle.sheet.proofs.Laying.{laid_twice}
 
 -- A writer has put the records of a sheet into a buffer, which was `before`, as far as the bytes that are left; those are accepted after them.
@@ -65,6 +70,7 @@ record Next (xs : List ℕ) (place n : ℕ) (g : Tally) (z : Summary) : Type 0 w
   short : Short raw
   bytes : Bytes raw.body
   same : xs ≡ framed raw ++ rest
+  reads : reading xs place ≡ taken shows rest
   is_shown : shown raw.kind raw.body place ≡ Some shows
   on : after_step (walked most) g place n rest (place + (4 + length raw.body)) (step g shows (place + (4 + length raw.body))) ≡ Ok z
 
@@ -89,38 +95,10 @@ next_record (suc most) place n xs g z b e = by (reading xs place) refl e
           short = again.short;
           bytes = again.bytes;
           same = again.same;
+          reads = f;
           is_shown = again.shows;
           on = subst (λ p. after_step (walked most) g place n rest p (step g s p) ≡ Ok z) far h;
         }
-
--- its kind
-kind_of : (number : ℕ) (body : List ℕ) (s : Shown) → KindIs number body s → (kind : Kind) × (kind_number kind ≡ number)
-kind_of number body (shows_heading b) k = (Heading, sym k.0)
-kind_of number body (shows_variable b) k = (Variable, sym k.0)
-kind_of number body (shows_sum b) k = (Sum, sym k.0)
-kind_of number body (shows_table x y rows at) k = (Table, sym k.0)
-kind_of number body (shows_short_table b) k = (Table, sym k.0)
-kind_of number body (shows_add b) k = (Add, sym k.0)
-kind_of number body (shows_retract b) k = (Retract, sym k.0)
-kind_of number body (shows_end b) k = (End, sym k.0)
-
-has_record : (xs : List ℕ) (place n : ℕ) (g : Tally) (z : Summary) → Next xs place n g z → HasRecord xs
-has_record xs place n g z next =
-    let f = framed_first next.raw next.rest next.short in
-    let kind = kind_of next.raw.kind next.raw.body next.shows (kind_is next.raw.kind next.raw.body place next.shows next.is_shown) in
-    let long = length-append (framed next.raw) next.rest in
-    subst HasRecord (sym next.same) (record { kind = kind.0; is_kind = kind.1 ∙ sym f.1; low = omega (arith, f.0); high = omega (arith, f.0) })
-
--- the record that was read off is the next one
-raw_is : (xs : List ℕ) (place n : ℕ) (g : Tally) (z : Summary) (next : Next xs place n g z) (number : ℕ) (body : List ℕ) → number ≡ number2 xs 2 → body ≡ take (number2 xs 0 - 4) (drop 4 xs)
-    → record { kind = number; body = body } ≡ next.raw
-raw_is xs place n g z next number body e f =
-    let first = framed_first next.raw next.rest next.short in
-    let long : number2 xs 0 ≡ 4 + length next.raw.body = ap (λ ys. number2 ys 0) next.same ∙ first.0 in
-    let kind : number ≡ next.raw.kind = e ∙ ap (λ ys. number2 ys 2) next.same ∙ first.1 in
-    let cut : body ≡ next.raw.body =
-    f ∙ body_cut xs (number2 xs 0) (omega arith) ∙ ap (λ m. drop 4 (take m xs)) long ∙ ap (λ ys. drop 4 (take (4 + length next.raw.body) ys)) next.same ∙ first.2 in
-    ap (λ k. record { kind = k; body = body }) kind ∙ ap (λ b. record { kind = next.raw.kind; body = b }) cut
 
 -- what is left after it
 rest_is : (xs : List ℕ) (place n : ℕ) (g : Tally) (z : Summary) (next : Next xs place n g z) → drop (4 + length next.raw.body) xs ≡ next.rest
@@ -280,53 +258,90 @@ module _ (sheet before : List ℕ) (p : Pen) (left buffer : List ℕ) (c : Copyi
 next_of : (sheet before : List ℕ) (p : Pen) (left buffer : List ℕ) (c : Copying sheet before p left buffer) → Next left p.place c.records p.tally c.found
 next_of sheet before p left buffer c = next_record c.most p.place c.records left p.tally c.found c.bytes c.onward
 
-pub record_there : (sheet before : List ℕ) (p : Pen) (left buffer : List ℕ) → Copying sheet before p left buffer → HasRecord left
-record_there sheet before p left buffer c = has_record left p.place c.records p.tally c.found (next_of sheet before p left buffer c)
+same_taken : (s t : Shown) (xs ys : List ℕ) → taken s xs ≡ taken t ys → (s ≡ t) × (xs ≡ ys)
+same_taken s t xs ys e = (cc, cc)
 
--- a record that was read off the bytes that are left, and put
-module _ (sheet before : List ℕ) (p : Pen) (left buffer : List ℕ) (c : Copying sheet before p left buffer) (number : ℕ) (body : List ℕ) (q : Pen) (ys : List ℕ)
-    (is_kind : number ≡ number2 left 2) (is_body : body ≡ take (number2 left 0 - 4) (drop 4 left)) where
+not_broken : (cause : RecordCause) (s : Shown) (xs : List ℕ) → taken s xs ≡ broken cause → ⊥
+not_broken cause s xs e = let z : ◌≡◌ {A = ℕ} 0 1 = cc in omega arith
+
+-- a record is there to be read
+pub readable : (sheet before : List ℕ) (p : Pen) (left buffer : List ℕ) → Copying sheet before p left buffer → (r : Result (Record × Part) (Fault RecordCause)) → Answers left p.place r → IsOk r
+readable sheet before p left buffer c (Ok found) a = refl
+readable sheet before p left buffer c (Err fault) a = let n = next_of sheet before p left buffer c in absurd (not_broken fault.cause n.shows n.rest (sym n.reads ∙ a.0))
+
+pub read_off : (p : Pen) (left : Part) (r : Result (Record × Part) (Fault RecordCause)) (found : Record × Part) → left.place ≡ p.place → Answers left.bytes.now left.place r → r ≡ Ok found
+    → TookFrom left.bytes.now p.place found.0 found.1
+read_off p left r found at a e = subst (λ n. TookFrom left.bytes.now n found.0 found.1) at (subst (Answers left.bytes.now left.place) e a)
+
+pub place_low : (sheet before : List ℕ) (p : Pen) (left buffer : List ℕ) → Copying sheet before p left buffer → p.place ≤ 65535
+place_low sheet before p left buffer c =
+    let all = ap length c.same ∙ length-append (bytes_begun c.begun) left in
+    omega (arith, c.short, c.reached)
+
+-- a record that was read off the bytes that are left
+module _ (sheet before : List ℕ) (p : Pen) (left buffer : List ℕ) (c : Copying sheet before p left buffer) (s : Shown) (rest : List ℕ) (reads : reading left p.place ≡ taken s rest) where
+  n : Next left p.place c.records p.tally c.found
+  n = next_of sheet before p left buffer c
+
+  is_next : (s ≡ n.shows) × (rest ≡ n.rest)
+  is_next = same_taken s n.shows rest n.rest (sym reads ∙ n.reads)
+
+  sound : Sound n.raw n.shows
+  sound = by (step p.tally n.shows (p.place + (4 + length n.raw.body))) refl
+    where
+      kind : KindIs n.raw.kind n.raw.body n.shows
+      kind = kind_is n.raw.kind n.raw.body p.place n.shows n.is_shown
+
+      by : (st : Step) → step p.tally n.shows (p.place + (4 + length n.raw.body)) ≡ st → Sound n.raw n.shows
+      by (goes h) e =
+          goes_sound p.tally n.raw n.shows (p.place + (4 + length n.raw.body)) h (subst (λ g. SizesLow g.variables) (sym c.tallied) (valid_low c.begun.n c.begun.variables c.keeps.variables_valid)) n.bytes kind
+          (goes_held p.tally n.shows (p.place + (4 + length n.raw.body)) h e)
+      by ends e = end_sound p.tally n.raw n.shows kind (end_held p.tally n.shows (p.place + (4 + length n.raw.body)) e)
+      by (stops cause) e = absurd (never _ c.found (sym (ap (after_step (walked n.most) p.tally p.place c.records n.rest (p.place + (4 + length n.raw.body))) e) ∙ n.on))
+
+  pub sayable : Sayable s
+  sayable = subst Sayable (sym is_next.0) sound.sayable
+
+  -- the entry that it says was put
   whole_length : (r : Raw) → length (framed r) ≡ 4 + length r.body
   whole_length r = omega arith
 
-  put_so : (n : Next left p.place c.records p.tally c.found) (a : Result ℕ WriteFault)
-      → ((s : Shown) → shown number body p.place ≡ Some s → Puts p buffer s (framed (record { kind = number; body = body })) q ys a) → Puts p buffer n.shows (framed n.raw) q ys a
-  put_so n a puts =
-      subst (λ w. (s : Shown) → shown w.kind w.body p.place ≡ Some s → Puts p buffer s (framed w) q ys a) (raw_is left p.place c.records p.tally c.found n number body is_kind is_body) puts n.shows n.is_shown
+  put_so : (q : Pen) (ys : List ℕ) (a : Result ℕ WriteFault) → PutsEntry p buffer (entry_in s) q ys a → Puts p buffer n.shows (framed n.raw) q ys a
+  put_so q ys a puts = by (subst (λ r. PutsRecord p buffer r q ys a) (ap (λ t. entry_record (entry_in t)) is_next.0 ∙ sound.again) puts)
+    where
+      by : PutsRecord p buffer n.raw q ys a → Puts p buffer n.shows (framed n.raw) q ys a
+      by (t, shows, so) = subst (λ u. Puts p buffer u (framed n.raw) q ys a) (same_shown t n.shows (sym shows ∙ n.is_shown)) so
 
-  pub copied_err : (f : WriteFault) → ((s : Shown) → shown number body p.place ≡ Some s → Puts p buffer s (framed (record { kind = number; body = body })) q ys (Err f)) → Copied sheet before ys (Err f)
-  copied_err f puts =
-      let n = next_of sheet before p left buffer c in
-      let so = put_so n (Err f) puts in
+  pub copied_err : (q : Pen) (ys : List ℕ) (f : WriteFault) → PutsEntry p buffer (entry_in s) q ys (Err f) → Copied sheet before ys (Err f)
+  copied_err q ys f puts =
+      let so = put_so q ys (Err f) puts in
       refused sheet before p left buffer c n f ys (subst (λ m. put p (length buffer) n.shows m ≡ Err f) (whole_length n.raw) so.0) so.2
 
   -- what is left then is nothing, or the rest of the sheet is still to be put
-  pub copied_ok : (place : ℕ) (rest : List ℕ) → rest ≡ drop (4 + length body) left → ((s : Shown) → shown number body p.place ≡ Some s → Puts p buffer s (framed (record { kind = number; body = body })) q ys (Ok place))
-      → (length rest ≡ 0 → Copied sheet before ys (Ok place)) × (1 ≤ length rest → Copying sheet before q rest ys)
-  copied_ok place rest is_rest puts = subst (λ rs. (length rs ≡ 0 → Copied sheet before ys (Ok place)) × (1 ≤ length rs → Copying sheet before q rs ys)) (sym same_rest) (by (put_is p (length buffer) n.shows (4 + length n.raw.body) q fits))
-    where
-      n : Next left p.place c.records p.tally c.found
-      n = next_of sheet before p left buffer c
+  abbrev Onward : Pen → List ℕ → ℕ → List ℕ → Type 0
+  Onward q ys place rs =
+      (length rs ≡ 0 → Copied sheet before ys (Ok place)) × (1 ≤ length rs → Copying sheet before q rs ys × (q.place ≡ p.place + (length left - length rs)))
 
+  pub copied_ok : (q : Pen) (ys : List ℕ) (place : ℕ) → PutsEntry p buffer (entry_in s) q ys (Ok place) → Onward q ys place rest
+  copied_ok q ys place puts = subst (Onward q ys place) (sym is_next.1) (by (put_is p (length buffer) n.shows (4 + length n.raw.body) q fits))
+    where
       so : Puts p buffer n.shows (framed n.raw) q ys (Ok place)
-      so = put_so n (Ok place) puts
+      so = put_so q ys (Ok place) puts
 
       fits : put p (length buffer) n.shows (4 + length n.raw.body) ≡ Ok q
       fits = subst (λ m. put p (length buffer) n.shows m ≡ Ok q) (whole_length n.raw) so.0
 
-      same_rest : rest ≡ n.rest
-      same_rest =
-          let long = ap (λ r. length r.body) (raw_is left p.place c.records p.tally c.found n number body is_kind is_body) in
-          is_rest ∙ ap (λ m. drop (4 + m) left) long ∙ rest_is left p.place c.records p.tally c.found n
-
       by : Put p (length buffer) (p.place + (4 + length n.raw.body)) (step p.tally n.shows (p.place + (4 + length n.raw.body))) q
-          → (length n.rest ≡ 0 → Copied sheet before ys (Ok place)) × (1 ≤ length n.rest → Copying sheet before q n.rest ys)
-      by (put_on h s made lies) = (
-        λ none. absurd (none_left n.most _ _ h c.found (subst (λ rs. walked n.most rs (p.place + (4 + length n.raw.body)) (c.records + 1) h ≡ Ok c.found) (nil_from_length n.rest none) (on_to sheet before p left buffer c n h s))),
-        λ some. goes_on sheet before p left buffer c n h q ys s made lies so.2,
+          → Onward q ys place n.rest
+      by (put_on h st made lies) = (
+        λ none. absurd (none_left n.most _ _ h c.found (subst (λ rs. walked n.most rs (p.place + (4 + length n.raw.body)) (c.records + 1) h ≡ Ok c.found) (nil_from_length n.rest none) (on_to sheet before p left buffer c n h st))),
+        λ some. (
+          goes_on sheet before p left buffer c n h q ys st made lies so.2,
+          (let size = ap length n.same ∙ length-append (framed n.raw) n.rest in let at = ap (λ z. z.place) made in omega arith),
+        ),
       )
-      by (put_end s made lies) =
-          let e = ended sheet before p left buffer c n place ys s (so.1 ∙ ap (λ z. z.place) made) lies so.2 in
+      by (put_end st made lies) =
+          let e = ended sheet before p left buffer c n place ys st (so.1 ∙ ap (λ z. z.place) made) lies so.2 in
           let none : length n.rest ≡ 0 = ap length e.0 in
           (λ _. e.1, λ some. absurd (omega arith))
 
@@ -354,21 +369,3 @@ start xs before a b = by (ltb 65535 (length xs)) refl a.is
           end_fits = λ l. absurd (omega arith);
           bytes = b;
         }
-
--- what follows a record that was read off
-pub rest_so : (xs body : List ℕ) → HasRecord xs → body ≡ take (number2 xs 0 - 4) (drop 4 xs) → drop (number2 xs 0) xs ≡ drop (4 + length body) xs
-rest_so xs body h e =
-    let a = ap length e in
-    let b = length-take (number2 xs 0 - 4) (drop 4 xs) in
-    let d = length-drop 4 xs in
-    let low = h.low in
-    let high = h.high in
-    ap (λ n. drop n xs) (omega arith)
-
-pub rest_smaller : (xs rest : List ℕ) → HasRecord xs → rest ≡ drop (number2 xs 0) xs → length rest < length xs
-rest_smaller xs rest h e =
-    let a = ap length e in
-    let d = length-drop (number2 xs 0) xs in
-    let low = h.low in
-    let high = h.high in
-    omega arith

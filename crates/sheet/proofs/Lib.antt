@@ -1,3 +1,4 @@
+mod Again
 mod Answered
 pub mod Chunks
 mod Copies

@@ -1,5 +1,5 @@
 -- What a judged record makes of a writer.
-use Rattle.std.proofs.Common.{◌≡◌, ℕ, ◌+◌, ◌≤◌, Bool, true, false, cond, not, Ok, Err, Result, Some, sym, refl, ap, ◌∙◌, subst, arith}
+use Rattle.std.proofs.Common.{◌≡◌, ℕ, ◌+◌, ◌≤◌, Bool, true, false, cond, not, Ok, Err, Result, sym, refl, ap, ◌∙◌, subst, arith}
 use Rattle.sheet_format.specs.declared.writing.WriteFault.{WriteFault}
 use Rattle.sheet_format.specs.declared.writing.WriteFault.TheVariants.{NoRoom, Closed}
 use Rattle.sheet_format.specs.Reading.{Shown}
@@ -10,9 +10,6 @@ use Rattle.sheet.specs.declared.progress.Next.TheVariants.{Heading, Variable, Co
 use Rattle.sheet.specs.Steps.{is_end, kept, next_step, Fits, Became}
 use Rattle.sheet.specs.Sizes.{SizesLow}
 use Rattle.sheet.proofs.Limits.{low_push}
-
-pub same_shown : (s t : Shown) → Some s ≡ Some t → s ≡ t
-same_shown s t e = cc
 
 opened : (p : Pen) (b : Bool) (r s : Result Pen WriteFault) → b ≡ true → r ≡ s → cond b r (Err Closed) ≡ s
 opened p true r s e f = f
@@ -59,16 +56,15 @@ became_low g h after Constraint e fits low = subst (λ t. SizesLow t.variables) 
 became_low g h after Move e fits low = subst (λ t. SizesLow t.variables) (sym e) low
 became_low g h after End e fits low = subst (λ t. SizesLow t.variables) (sym e) low
 
--- a record of so many bytes, four of them before its body
-module _ (p : Pen) (size body long : ℕ) (s : Shown) (is_open : p.is_open ≡ true) (whole : 4 + body ≡ long) where
-  by_step : (st : Step) (r : Result Pen WriteFault) → step p.tally s (p.place + (4 + body)) ≡ st → put_step p size (p.place + (4 + body)) st ≡ r → put p size s long ≡ r
-  by_step st r judged e =
-      subst (λ n. put p size s n ≡ r) whole (opened p p.is_open _ r is_open (ap (put_step p size (p.place + (4 + body))) judged ∙ e))
+-- a record of so many bytes that ends before a place
+module _ (p : Pen) (size long after : ℕ) (s : Shown) (is_open : p.is_open ≡ true) (at : after ≡ p.place + long) where
+  by_step : (st : Step) (r : Result Pen WriteFault) → step p.tally s after ≡ st → put_step p size after st ≡ r → put p size s long ≡ r
+  by_step st r judged e = opened p p.is_open _ r is_open (subst (λ n. put_step p size n (step p.tally s n) ≡ r) at (ap (put_step p size after) judged ∙ e))
 
-  pub put_fits : (next : Next) (h : Tally) (last : Bool) → last ≡ is_end next → step p.tally s (p.place + (4 + body)) ≡ next_step p.tally (p.place + (4 + body)) next → Became p.tally (next_step p.tally (p.place + (4 + body)) next) h
-      → lies_in size (p.place + (4 + body) + kept next) ≡ true → put p size s long ≡ Ok (record { tally = h; place = p.place + (4 + body); is_open = not last })
+  pub put_fits : (next : Next) (h : Tally) (last : Bool) → last ≡ is_end next → step p.tally s after ≡ next_step p.tally after next → Became p.tally (next_step p.tally after next) h → lies_in size (after + kept next) ≡ true
+      → put p size s long ≡ Ok (record { tally = h; place = after; is_open = not last })
   put_fits next h last e judged became fits =
-      by_step _ _ judged (fits_step p size (p.place + (4 + body)) next h became fits ∙ ap (λ b. Ok (record { tally = h; place = p.place + (4 + body); is_open = not b })) (sym e))
+      by_step _ _ judged (fits_step p size after next h became fits ∙ ap (λ b. Ok (record { tally = h; place = after; is_open = not b })) (sym e))
 
-  pub put_no_room : (next : Next) → step p.tally s (p.place + (4 + body)) ≡ next_step p.tally (p.place + (4 + body)) next → lies_in size (p.place + (4 + body) + kept next) ≡ false → put p size s long ≡ Err NoRoom
-  put_no_room next judged fits = by_step _ _ judged (no_room_step p size (p.place + (4 + body)) next fits)
+  pub put_no_room : (next : Next) → step p.tally s after ≡ next_step p.tally after next → lies_in size (after + kept next) ≡ false → put p size s long ≡ Err NoRoom
+  put_no_room next judged fits = by_step _ _ judged (no_room_step p size after next fits)

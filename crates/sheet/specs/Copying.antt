@@ -1,16 +1,17 @@
 -- What is put into a buffer of an accepted sheet's records.
-use Rattle.std.specs.Prelude.{◌≡◌, ℕ, ◌+◌, ◌<◌, ◌≤◌, min, List, ◌++◌, length, Ok, Err, Result}
+use Rattle.std.specs.Prelude.{◌≡◌, ℕ, ◌+◌, ◌/◌, ◌<◌, ◌≤◌, min, List, ◌++◌, length, Ok, Err, Result}
 use Rattle.sheet_format.specs.declared.found.Summary.{Summary}
-use Rattle.sheet_format.specs.declared.kinds.Kind.{Kind}
 use Rattle.sheet_format.specs.declared.writing.WriteFault.{WriteFault}
 use Rattle.sheet_format.specs.declared.writing.WriteFault.TheVariants.{NoRoom}
 use Rattle.sheet_format.specs.Numbers.{number2}
-use Rattle.sheet_format.specs.Kinds.{kind_number}
+use Rattle.sheet_format.specs.Value.{table, add, retract}
+use Rattle.sheet_format.specs.Reading.{Shown, shows_heading, shows_variable, shows_sum, shows_table, shows_short_table, shows_add, shows_retract, shows_end}
+use Rattle.sheet_format.specs.Decoding.{rows_in, sum_in, table_in}
 use Rattle.sheet_format.specs.Encoding.{Raw, framed}
 use Rattle.sheet_format.specs.Beginnings.{Begun, bytes_begun, Keeps}
-use Rattle.sheet_format.specs.Verdict.{verdict}
+use Rattle.sheet_format.specs.Verdict.{variable_of, verdict}
 use Rattle.sheet_format.specs.Faults.{fault_number}
-use Rattle.sheet_format.specs.Writing.{write_number, laid}
+use Rattle.sheet_format.specs.Writing.{write_number, Entry, heads, has_variable, has_constraint, has_move, ends_here, laid}
 use Rattle.sheet.specs.declared.copying.RewriteFault.{RewriteFault}
 use Rattle.sheet.specs.declared.copying.RewriteFault.TheVariants.{Sheet, Write}
 
@@ -19,12 +20,27 @@ pub record IsAccepted (xs : List ℕ) : Type 0 where
   pub found : Summary
   pub is : verdict xs ≡ Ok found
 
--- bytes that begin with a whole record of a known kind
-pub record HasRecord (xs : List ℕ) : Type 0 where
-  pub kind : Kind
-  pub is_kind : kind_number kind ≡ number2 xs 2
-  pub low : 4 ≤ number2 xs 0
-  pub high : number2 xs 0 ≤ length xs
+-- the entry that a record says
+abbrev pub entry_in : Shown → Entry
+entry_in (shows_heading body) = heads (number2 body 2)
+entry_in (shows_variable body) = has_variable (variable_of body)
+entry_in (shows_sum body) = has_constraint (sum_in body)
+entry_in (shows_table a b rows place) = has_constraint (table a b (rows_in (length rows / 8) rows))
+entry_in (shows_short_table body) = has_constraint (table_in body)
+entry_in (shows_add body) = has_move (add (number2 body 0))
+entry_in (shows_retract body) = has_move (retract (number2 body 0))
+entry_in (shows_end body) = ends_here
+
+-- both ends of a constraint are there, and a table has at most 64 rows
+abbrev pub Sayable : Shown → Type 0
+Sayable (shows_heading body) = Unit {0}
+Sayable (shows_variable body) = Unit {0}
+Sayable (shows_sum body) = 2 ≤ length body
+Sayable (shows_table a b rows place) = length rows ≤ 512
+Sayable (shows_short_table body) = ⊥
+Sayable (shows_add body) = Unit {0}
+Sayable (shows_retract body) = Unit {0}
+Sayable (shows_end body) = Unit {0}
 
 -- The buffer was too short: the first records of the sheet stand in it, and all other bytes are as they were. Where there is one of them at least, the four
 -- bytes of an end would fit after them; the record that is next does not fit with as much of what follows it as an end has bytes.

@@ -4,3 +4,4 @@ pub mod Advance
 pub mod Sums
 pub mod Sizes
 pub mod Copying
+pub mod Weighing

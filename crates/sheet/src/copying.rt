@@ -1,14 +1,17 @@
 // Putting the records of a sheet into a buffer, through a writer.
-ghost use Rattle.std.specs.Prelude.{◌≡◌, ◌-◌, length, take, drop};
-ghost use Rattle.sheet_format.specs.Kinds.{kind_number};
-ghost use Rattle.sheet_format.specs.Numbers.{number2};
-ghost use Rattle.sheet_format.specs.Writing.{new_pen};
-ghost use Rattle.sheet.specs.Copying.{IsAccepted, HasRecord, Copied, Rewrites, rewrite_number};
+ghost use Rattle.std.specs.Prelude.{◌≡◌, ◌≤◌, ◌/◌, length};
+ghost use Rattle.sheet_format.specs.Decoding.{rows_in};
+ghost use Rattle.sheet_format.specs.Writing.{new_pen, PutsEntry};
+ghost use Rattle.sheet.specs.Outcome.{shown_by};
+ghost use Rattle.sheet.specs.Copying.{IsAccepted, Sayable, entry_in, Copied, Rewrites, rewrite_number};
 ghost use Rattle.sheet.specs.declared.copying.RewriteFault.TheVariants.{Sheet, Write};
 
 use crate::checking::check;
+use crate::formula::Formula;
+use crate::reader::{Part, Record, read_record};
 use crate::writer::Writer;
-use sheet_format::{Kind, SheetFault, WriteFault, word};
+use arrayvec::ArrayVec;
+use sheet_format::{SheetFault, Variable, WriteFault, row, word};
 
 // Why a sheet is not rewritten: the check refuses it, or the buffer is too short for it.
 #[derive(Clone, Copy, PartialEq, Eq, Debug)]
@@ -46,16 +49,43 @@ impl From<WriteFault> for RewriteFault {
     }
 }
 
-// the record that the bytes begin with: its kind and its body; and what follows it
-fn first_record(left: &[u8]) -> (Kind, &[u8], &[u8])
-    requires { HasRecord left.now }
-    ensures kind { kind_number result.0 ≡ number2 left.now 2 }
-    ensures body { result.1.now ≡ take (number2 left.now 0 - 4) (drop 4 left.now) }
-    ensures rest { result.2.now ≡ drop (number2 left.now 0) left.now }
+// the rows of a table, of eight bytes each
+fn rows_of(bytes: &[u8]) -> ArrayVec<u64, 64>
+    requires { length bytes.now ≤ 512 }
+    ensures { result.items ≡ rows_in (length bytes.now / 8) bytes.now }
 {
-    let length = word(left, 0) as usize;
-    let kind = Kind::try_from(word(left, 2)).unwrap();
-    (kind, &left[4..length], &left[length..])
+    let mut rows = ArrayVec::new();
+    for k in 0..bytes.len() / 8 {
+        rows.push(row(bytes, 8 * k));
+    }
+    rows
+}
+
+// puts a record that was read, by the call of its kind
+fn put_record(
+    writer: &mut Writer,
+    buffer: &mut [u8],
+    taken: Record<'_>,
+) -> Result<usize, WriteFault>
+    requires { Sayable (shown_by taken) }
+    ensures { PutsEntry writer.old buffer.old (entry_in (shown_by taken.entry)) writer.new buffer.new result }
+{
+    match taken {
+        Record::Heading(body) => writer.heading(buffer, word(body, 2)),
+        Record::Variable(body) => {
+            let size = word(body, 0);
+            let house = word(body, 2);
+            writer.variable(buffer, Variable { size, house })
+        }
+        Record::Sum(body) => writer.sum(buffer, body[0], body[1], Formula::of_body(body)),
+        Record::Table { left, right, rows } => {
+            writer.table(buffer, left, right, &rows_of(rows.bytes))
+        }
+        Record::ShortTable(_) => unreachable!(),
+        Record::Add(body) => writer.add(buffer, word(body, 0)),
+        Record::Retract(body) => writer.retract(buffer, word(body, 0)),
+        Record::End(_) => writer.end(buffer),
+    }
 }
 
 // the records of an accepted sheet, one after the other
@@ -64,11 +94,14 @@ fn copy(writer: &mut Writer, sheet: &[u8], buffer: &mut [u8]) -> Result<usize, W
     requires accepted { IsAccepted sheet.now }
     ensures { Copied sheet.now buffer.old buffer.new result }
 {
-    let mut left = sheet;
+    let mut left = Part {
+        bytes: sheet,
+        place: 0,
+    };
     loop {
-        let (kind, body, rest) = first_record(left);
-        let place = writer.put(buffer, kind, body)?;
-        if rest.is_empty() {
+        let (taken, rest) = read_record(left.bytes, left.place as u32).unwrap();
+        let place = put_record(writer, buffer, taken)?;
+        if rest.bytes.is_empty() {
             return Ok(place);
         }
         left = rest;

@@ -186,6 +186,7 @@ impl Progress {
     }
 
     // a table constraint with both its ends
+    #[tactic(auto, using(crate::proofs::Chunks::rows_all))]
     fn table(&self, left: u8, right: u8, rows: &[u8]) -> Result<Next, Cause>
         ensures { Judged self.now (λ after. constraint_step self.now (table_step self.now left right rows.now after)) result }
     {

@@ -10,12 +10,13 @@ ghost use Rattle.std.proofs.Common.{of_z};
 ghost use Rattle.std.specs.Int.{w16, w32};
 ghost use Rattle.sheet_format.specs.Beginnings.{Begun, nothing_begun};
 ghost use Rattle.sheet_format.specs.Written.{Written, Grows};
-ghost use Rattle.sheet_format.specs.Reading.{Shown, shown};
 ghost use Rattle.sheet.specs.Sizes.{SizesLow};
-ghost use Rattle.sheet_format.specs.Writing.{Pen, new_pen, heads, has_variable, has_constraint, has_move, ends_here, lies_in, laid, Puts, PutsEntry, Abandons};
+ghost use Rattle.sheet.specs.Weighing.{Room, Weighed};
+ghost use Rattle.sheet_format.specs.Reading.{Shown, shown};
+ghost use Rattle.sheet_format.specs.Writing.{Pen, new_pen, heads, has_variable, has_constraint, has_move, ends_here, lies_in, laid, PutsRecord, PutsEntry, Abandons};
 
 use crate::formula::Formula;
-use crate::progress::Progress;
+use crate::progress::{Next, Progress};
 use crate::reader::record_of;
 use arrayvec::ArrayVec;
 use sheet_format::{Kind, Variable, WriteFault};
@@ -172,14 +173,11 @@ impl Writer {
         }
     }
 
-    // a record of a kind, which is judged as the check judges what the reader takes off
-    pub(crate) fn put(
-        &mut self,
-        buffer: &mut [u8],
-        kind: Kind,
-        body: &[u8],
-    ) -> Result<usize, WriteFault>
-        ensures { (s : Shown) → shown (kind_number kind) body.now self.old.place ≡ Some s → Puts self.old buffer.old s (framed (record { kind = kind_number kind; body = body.now })) self.new buffer.new result }
+    // what a record of a kind would add to a sheet in so many bytes, judged as the check judges what the reader takes off, and the place after it
+    #[tactic(auto, using(crate::proofs::Putting::put_no_room))]
+    fn judge(&self, size: usize, kind: Kind, body: &[u8]) -> Result<(Next, usize), WriteFault>
+        ensures room { Room self.now size (4 + length body.now) result }
+        ensures judged { (s : Shown) → shown (kind_number kind) body.now self.now.place ≡ Some s → Weighed self.now size s (4 + length body.now) result }
     {
         if !self.is_open {
             return Err(WriteFault::Closed);
@@ -188,9 +186,17 @@ impl Writer {
             .progress
             .judge(record_of(kind, body, self.place as u32))?;
         let after = self.place + (4 + body.len());
-        if !lies_in(buffer.len(), after + next.kept()) {
+        if !lies_in(size, after + next.kept()) {
             return Err(WriteFault::NoRoom);
         }
+        Ok((next, after))
+    }
+
+    // puts a record of a kind, or leaves all as it was
+    fn put(&mut self, buffer: &mut [u8], kind: Kind, body: &[u8]) -> Result<usize, WriteFault>
+        ensures { PutsRecord self.old buffer.old (record { kind = kind_number kind; body = body.now }) self.new buffer.new result }
+    {
+        let (next, after) = self.judge(buffer.len(), kind, body)?;
         lay_record(buffer, self.place, kind, body);
         self.progress.take(next, after as u32);
         self.place = after;
@@ -275,10 +281,11 @@ impl Writer {
         ensures call { Abandons self.old self.new result }
         ensures written { (b : Begun) (xs : List ℕ) → Written b self.old xs → Written b self.new xs }
     {
-        if !self.is_open {
-            return Err(WriteFault::Closed);
+        if self.is_open {
+            self.is_open = false;
+            Ok(self.place)
+        } else {
+            Err(WriteFault::Closed)
         }
-        self.is_open = false;
-        Ok(self.place)
     }
 }

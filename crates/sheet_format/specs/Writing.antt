@@ -1,13 +1,11 @@
 -- What a writer of sheets puts down, and what each of its calls does to it and to the buffer.
-use Rattle.std.specs.Prelude.{◌≡◌, ℕ, ◌+◌, Bool, true, false, cond, not, ◌&&◌, List, [], ◌++◌, length, take, drop, Ok, Err, Result, nat_lt}
-use Rattle.std.specs.List.{flat_map}
+use Rattle.std.specs.Prelude.{◌≡◌, ℕ, ◌+◌, Bool, true, false, cond, not, ◌&&◌, List, ◌++◌, length, take, drop, Some, Ok, Err, Result, nat_lt}
 use Rattle.sheet_format.specs.declared.found.Variable.{Variable}
 use Rattle.sheet_format.specs.declared.writing.WriteFault.{WriteFault}
 use Rattle.sheet_format.specs.declared.writing.WriteFault.TheVariants.{Format, NoRoom, Closed}
-use Rattle.sheet_format.specs.Numbers.{eight}
-use Rattle.sheet_format.specs.Value.{Constraint, sum, table, Move, add, retract}
+use Rattle.sheet_format.specs.Value.{Constraint, Move}
 use Rattle.sheet_format.specs.Encoding.{Raw, framed, heading_record, variable_record, constraint_record, move_record, end_record}
-use Rattle.sheet_format.specs.Reading.{Shown, shows_heading, shows_variable, shows_sum, shows_table, shows_add, shows_retract, shows_end}
+use Rattle.sheet_format.specs.Reading.{Shown, shown}
 use Rattle.sheet_format.specs.Verdict.{Tally, nothing_yet, Step, goes, ends, stops, step}
 use Rattle.sheet_format.specs.Faults.{cause_number}
 
@@ -30,16 +28,6 @@ entry_record (has_variable v) = variable_record v
 entry_record (has_constraint c) = constraint_record c
 entry_record (has_move m) = move_record m
 entry_record ends_here = end_record
-
--- what that record shows, if it begins at a place
-abbrev pub entry_shown : Entry → ℕ → Shown
-entry_shown (heads n) place = shows_heading (heading_record n).body
-entry_shown (has_variable v) place = shows_variable (variable_record v).body
-entry_shown (has_constraint (sum a b m k lo hi)) place = shows_sum (constraint_record (sum a b m k lo hi)).body
-entry_shown (has_constraint (table a b rows)) place = shows_table a b (flat_map eight rows) (place + 6)
-entry_shown (has_move (add p)) place = shows_add (move_record (add p)).body
-entry_shown (has_move (retract p)) place = shows_retract (move_record (retract p)).body
-entry_shown ends_here place = shows_end []
 
 -- What a writer knows: the check's tally of the records so far, the place that they reach, and whether more may come: it is neither ended nor
 -- abandoned.
@@ -81,9 +69,13 @@ abbrev pub Puts : Pen → List ℕ → Shown → List ℕ → Pen → List ℕ �
 Puts p xs s bytes q ys (Ok place) = (put p (length xs) s (length bytes) ≡ Ok q) × (place ≡ q.place) × (ys ≡ laid p.place bytes xs)
 Puts p xs s bytes q ys (Err fault) = (put p (length xs) s (length bytes) ≡ Err fault) × (q ≡ p) × (ys ≡ xs)
 
+-- the same of a record, by what it shows where it is put
+abbrev pub PutsRecord : Pen → List ℕ → Raw → Pen → List ℕ → Result ℕ WriteFault → Type 0
+PutsRecord p xs raw q ys r = (s : Shown) × (shown raw.kind raw.body p.place ≡ Some s) × Puts p xs s (framed raw) q ys r
+
 -- the same of an entry
 abbrev pub PutsEntry : Pen → List ℕ → Entry → Pen → List ℕ → Result ℕ WriteFault → Type 0
-PutsEntry p xs e = Puts p xs (entry_shown e p.place) (framed (entry_record e))
+PutsEntry p xs e = PutsRecord p xs (entry_record e)
 
 -- a call that closes an open writer and writes nothing; its answer is the place reached
 abbrev pub Abandons : Pen → Pen → Result ℕ WriteFault → Type 0

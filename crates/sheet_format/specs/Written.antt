@@ -1,9 +1,6 @@
 -- What stands in a buffer of which a writer has written a beginning of a sheet, and what stands there when it has ended.
-use Rattle.std.specs.Prelude.{◌≡◌, ℕ, ◌^◌, ◌<◌, List, [], ◌∷◌, ◌++◌, length, take, FitsSigned, Ok, Err, Result}
-use Rattle.std.specs.Int.{w16, w32}
-use Rattle.std.specs.List.{AllByRecursion}
+use Rattle.std.specs.Prelude.{◌≡◌, ℕ, List, [], ◌∷◌, ◌++◌, length, take, Ok, Err, Result}
 use Rattle.sheet_format.specs.declared.writing.WriteFault.{WriteFault}
-use Rattle.sheet_format.specs.Value.{sum, table, add, retract}
 use Rattle.sheet_format.specs.Encoding.{encode, Valid}
 use Rattle.sheet_format.specs.Decoding.{decode}
 use Rattle.sheet_format.specs.Beginnings.{Begun, bytes_begun, Keeps, begun_tally, sheet_said}
@@ -46,13 +43,3 @@ Grown b ends_here q ys place = Whole b place ys
 abbrev pub Grows : Begun → Entry → Pen → List ℕ → Result ℕ WriteFault → Type 0
 Grows b e q ys (Ok place) = Grown b e q ys place
 Grows b e q ys (Err fault) = Written b q ys
-
--- the numbers of an entry fit into their fields
-abbrev pub Fields : Entry → Type 0
-Fields (heads n) = n < 65536
-Fields (has_variable v) = (v.size < 65536) × (v.house < 65536)
-Fields (has_constraint (sum a b m k lo hi)) = (a < 256) × (b < 256) × FitsSigned w16 m × FitsSigned w16 k × FitsSigned w32 lo × FitsSigned w32 hi
-Fields (has_constraint (table a b rows)) = (a < 256) × (b < 256) × AllByRecursion (λ row. row < 2 ^ 64) rows
-Fields (has_move (add p)) = p < 65536
-Fields (has_move (retract p)) = p < 65536
-Fields ends_here = Unit {0}

@@ -1,6 +1,7 @@
 -- What the call of a writer makes of the beginning of a sheet that it has written.
-use Rattle.std.proofs.Common.{◌≡◌, ℕ, ◌+◌, ◌*◌, ◌/◌, ◌%◌, ◌<◌, ◌≤◌, Bool, true, false, cond, List, [], ◌∷◌, ◌++◌, length, take, drop, Ok, Err, Result, sym, refl, ap, ◌∙◌, subst, arith, of_z, w16, w32}
-use Rattle.std.specs.List.{flat_map}
+use Rattle.std.specs.Prelude.{FitsSigned}
+use Rattle.std.proofs.Common.{◌≡◌, ℕ, ◌+◌, ◌*◌, ◌/◌, ◌%◌, ◌^◌, ◌<◌, ◌≤◌, Bool, true, false, cond, List, [], ◌∷◌, ◌++◌, length, take, drop, Some, Ok, Err, Result, sym, refl, ap, ◌∙◌, subst, arith, of_z, w16, w32}
+use Rattle.std.specs.List.{flat_map, AllByRecursion}
 use Rattle.std.proofs.lemmas.List.{append_assoc, append-nil, length-append, length-take-le, take_at}
 use Rattle.std.proofs.lemmas.Bool.{ltb-false, and_parts, not-true}
 use Rattle.sheet_format.specs.declared.found.Variable.{Variable}
@@ -11,13 +12,14 @@ use Rattle.sheet_format.specs.Value.{sum, table, add, retract}
 use Rattle.sheet_format.specs.Encoding.{Raw, framed, variable_record, end_record, encode, Valid}
 use Rattle.sheet_format.specs.Decoding.{rows_in, decode}
 use Rattle.sheet_format.specs.Beginnings.{Begun, records_begun, bytes_begun, AllThere, nothing_begun, begun_tally, sheet_said}
-use Rattle.sheet_format.specs.Reading.{Shown}
+use Rattle.sheet_format.specs.Reading.{Shown, shows_end, shown}
 use Rattle.sheet_format.specs.Verdict.{Tally, Step, goes, ends, stops, step, variable_of, verdict}
-use Rattle.sheet_format.specs.Writing.{Entry, heads, has_variable, has_constraint, has_move, ends_here, entry_record, entry_shown, Pen, new_pen, lies_in, put_step, put, laid, PutsEntry}
-use Rattle.sheet_format.specs.Written.{begun_with, Written, Whole, Grown, Grows, Fields}
+use Rattle.sheet_format.specs.Writing.{Entry, heads, has_variable, has_constraint, has_move, ends_here, entry_record, Pen, new_pen, lies_in, put_step, put, laid, PutsEntry}
+use Rattle.sheet_format.specs.Written.{begun_with, Written, Whole, Grown, Grows}
 use Rattle.sheet_law.proofs.NumberLaws.{two_back, Bytes}
 use Rattle.sheet_law.proofs.Held.{GoesHeld, goes_held, end_held}
-use Rattle.sheet_law.proofs.Shows.{KindIs}
+use Rattle.sheet_law.proofs.Shows.{KindIs, kind_is}
+use Rattle.sheet_law.proofs.Telling.{the_end}
 use Rattle.sheet_law.proofs.Tallies.{past, same_begun, bytes_more, place_more, complete_is}
 use Rattle.sheet_law.proofs.Rows.{rows_there}
 use Rattle.sheet_law.proofs.Items.{sum_back}
@@ -61,16 +63,17 @@ was_open false r q e = absurd (let z : ◌≡◌ {A = ℕ} 0 1 = cc in omega ari
 pub put_is : (p : Pen) (size : ℕ) (s : Shown) (long : ℕ) (q : Pen) → put p size s long ≡ Ok q → Put p size (p.place + long) (step p.tally s (p.place + long)) q
 put_is p size s long q e = by_step p size (p.place + long) (step p.tally s (p.place + long)) q (was_open p.is_open _ q e)
 
--- the record of an entry: its kind and body, its bytes, and what they say
-entry_kind : (e : Entry) (place : ℕ) → KindIs (entry_record e).kind (entry_record e).body (entry_shown e place)
-entry_kind (heads n) place = (refl, refl)
-entry_kind (has_variable v) place = (refl, refl)
-entry_kind (has_constraint (sum a b m k lo hi)) place = (refl, refl)
-entry_kind (has_constraint (table a b rows)) place = (refl, refl)
-entry_kind (has_move (add p)) place = (refl, refl)
-entry_kind (has_move (retract p)) place = (refl, refl)
-entry_kind ends_here place = (refl, refl)
+-- the numbers of an entry fit into their fields
+abbrev pub Fields : Entry → Type 0
+Fields (heads n) = n < 65536
+Fields (has_variable v) = (v.size < 65536) × (v.house < 65536)
+Fields (has_constraint (sum a b m k lo hi)) = (a < 256) × (b < 256) × FitsSigned w16 m × FitsSigned w16 k × FitsSigned w32 lo × FitsSigned w32 hi
+Fields (has_constraint (table a b rows)) = (a < 256) × (b < 256) × AllByRecursion (λ row. row < 2 ^ 64) rows
+Fields (has_move (add p)) = p < 65536
+Fields (has_move (retract p)) = p < 65536
+Fields ends_here = Unit {0}
 
+-- the record of an entry: its bytes, and what they say
 two_bytes : (n : ℕ) (rest : List ℕ) → Bytes rest → Bytes (two n ++ rest)
 two_bytes n rest b = (omega arith, (omega arith, b))
 
@@ -116,24 +119,22 @@ entry_said b (has_move (retract p)) f =
     same_begun _ _ _ _ _ _ _ _ refl (append-nil b.variables) (append-nil b.constraints) (ap (λ x. b.moves ++ (retract x ∷ [])) (two_back p [] f))
 entry_said b ends_here f = same_begun _ _ _ _ _ _ _ _ refl (append-nil b.variables) (append-nil b.constraints) (append-nil b.moves)
 
-module _ (b : Begun) (p : Pen) (xs : List ℕ) (w : Written b p xs) (e : Entry) (f : Fields e) (q : Pen) (ys : List ℕ) (same : ys ≡ laid p.place (framed (entry_record e)) xs) where
+module _ (b : Begun) (p : Pen) (xs : List ℕ) (w : Written b p xs) (raw : Raw) (ys : List ℕ) (same : ys ≡ laid p.place (framed raw) xs) where
   -- the bytes before the place reached
-  bytes_there : p.place ≤ length xs → take (p.place + length (framed (entry_record e))) ys ≡ bytes_begun b ++ framed (entry_record e)
-  bytes_there l =
-      ap (take (p.place + length (framed (entry_record e)))) same ∙ take_laid p.place (framed (entry_record e)) xs l ∙ ap (λ zs. zs ++ framed (entry_record e)) w.bytes
+  bytes_there : p.place ≤ length xs → take (p.place + length (framed raw)) ys ≡ bytes_begun b ++ framed raw
+  bytes_there l = ap (take (p.place + length (framed raw))) same ∙ take_laid p.place (framed raw) xs l ∙ ap (λ zs. zs ++ framed raw) w.bytes
 
-  goes_on : (h : Tally) → step p.tally (entry_shown e p.place) (p.place + length (framed (entry_record e))) ≡ goes h
-      → q ≡ record { tally = h; place = p.place + length (framed (entry_record e)); is_open = true } → p.place ≤ length xs → Written (begun_with b e) q ys
-  goes_on h s made l =
-      let r : Raw = entry_record e in
+  goes_on : (s : Shown) → KindIs raw.kind raw.body s → Bytes raw.body → (q : Pen) (h : Tally) → step p.tally s (p.place + length (framed raw)) ≡ goes h
+      → q ≡ record { tally = h; place = p.place + length (framed raw); is_open = true } → p.place ≤ length xs → Written (said_with b raw) q ys
+  goes_on s kind low q h st made l =
       let reached = w.reached in
-      let far : past (length (bytes_begun b)) (entry_record e) ≡ p.place + length (framed (entry_record e)) = omega arith in
-      let held : GoesHeld (begun_tally b) (entry_shown e p.place) (past (length (bytes_begun b)) r) h =
-      goes_held (begun_tally b) (entry_shown e p.place) (past (length (bytes_begun b)) r) h
-      (ap (step (begun_tally b) (entry_shown e p.place)) far ∙ ap (λ g. step g (entry_shown e p.place) (p.place + length (framed r))) (sym w.tallied) ∙ s) in
-      let x : Extends b r h = extends b w.keeps r (entry_bytes e f) h (entry_shown e p.place) (entry_kind e p.place) held in
-      let more : bytes_begun x.next ≡ bytes_begun b ++ framed r = ap (flat_map framed) x.more ∙ bytes_more (records_begun b) r in
-      let long : length (bytes_begun x.next) ≡ past (length (bytes_begun b)) r = ap (λ rs. length (flat_map framed rs)) x.more ∙ place_more (records_begun b) r in
+      let far : past (length (bytes_begun b)) raw ≡ p.place + length (framed raw) = omega arith in
+      let held : GoesHeld (begun_tally b) s (past (length (bytes_begun b)) raw) h =
+      goes_held (begun_tally b) s (past (length (bytes_begun b)) raw) h
+      (ap (step (begun_tally b) s) far ∙ ap (λ g. step g s (p.place + length (framed raw))) (sym w.tallied) ∙ st) in
+      let x : Extends b raw h = extends b w.keeps raw low h s kind held in
+      let more : bytes_begun x.next ≡ bytes_begun b ++ framed raw = ap (flat_map framed) x.more ∙ bytes_more (records_begun b) raw in
+      let long : length (bytes_begun x.next) ≡ past (length (bytes_begun b)) raw = ap (λ rs. length (flat_map framed rs)) x.more ∙ place_more (records_begun b) raw in
       let next : Written x.next q ys =
       record {
         keeps = x.keeps;
@@ -141,53 +142,72 @@ module _ (b : Begun) (p : Pen) (xs : List ℕ) (w : Written b p xs) (e : Entry) 
         reached = ap (λ z. z.place) made ∙ sym far ∙ sym long;
         bytes = ap (λ z. take z.place ys) made ∙ bytes_there l ∙ sym more;
       } in
-      subst (λ z. Written z q ys) (x.said ∙ entry_said b e f) next
+      subst (λ z. Written z q ys) x.said next
 
 whole : (b : Begun) (p : Pen) (xs : List ℕ) → Written b p xs → (ys : List ℕ) → ys ≡ laid p.place (framed end_record) xs → (place : ℕ) → place ≡ p.place + 4
-    → step p.tally (entry_shown ends_here p.place) (p.place + 4) ≡ ends → p.place ≤ length xs → p.place + 4 ≤ 65535 → Whole b place ys
+    → step p.tally (shows_end []) (p.place + 4) ≡ ends → p.place ≤ length xs → p.place + 4 ≤ 65535 → Whole b place ys
 whole b p xs w ys same place at s l short =
     let reached = w.reached in
-    let held = end_held (begun_tally b) (entry_shown ends_here p.place) (p.place + 4) (ap (λ g. step g (entry_shown ends_here p.place) (p.place + 4)) (sym w.tallied) ∙ s) in
+    let held = end_held (begun_tally b) (shows_end []) (p.place + 4) (ap (λ g. step g (shows_end []) (p.place + 4)) (sym w.tallied) ∙ s) in
     let all : AllThere b = complete_is b w.keeps held.0 in
-    let there : take place ys ≡ encode (sheet_said b) = ap (λ n. take n ys) at ∙ bytes_there b p xs w ends_here tt p ys same l ∙ ended_bytes b all in
+    let there : take place ys ≡ encode (sheet_said b) = ap (λ n. take n ys) at ∙ bytes_there b p xs w end_record ys same l ∙ ended_bytes b all in
     let long = sym (ap length (ended_bytes b all)) ∙ length-append (bytes_begun b) (framed end_record) in
     let v : Valid (sheet_said b) = said_valid b w.keeps all (omega arith) in
     record { valid = v; bytes = there; accepted = ap verdict there ∙ encoded_accepted (sheet_said b) v; back = ap decode there ∙ decode-encode (sheet_said b) v }
 
+-- what the end shows
+end_shows : (place : ℕ) (s : Shown) → shown end_record.kind end_record.body place ≡ Some s → s ≡ shows_end []
+end_shows place s e = cc
+
 -- only the end ends
+last_kind : (e : Entry) (g : Tally) (place after : ℕ) (s : Shown) → shown (entry_record e).kind (entry_record e).body place ≡ Some s → step g s after ≡ ends → (entry_record e).kind ≡ 7
+last_kind e g place after s shows st = ap (λ r. r.kind) (the_end g (entry_record e) s (kind_is _ _ place s shows) (end_held g s after st)).1
+
 module _ (b : Begun) (p : Pen) (xs : List ℕ) (w : Written b p xs) (q : Pen) (ys : List ℕ) (place : ℕ) where
-  grown : (e : Entry) → Fields e → PutsEntry p xs e q ys (Ok place) → Grown b e q ys place
-  grown e f puts = by e f puts.1 puts.2 (by_step p (length xs) _ (step p.tally (entry_shown e p.place) _) q (was_open p.is_open _ q puts.0))
+  -- an entry that is not the end
+  one_more : (e : Entry) → Fields e → ((entry_record e).kind ≡ 7 → ⊥) → PutsEntry p xs e q ys (Ok place) → Written (begun_with b e) q ys
+  one_more e f not_last (s, shows, puts) = by (put_is p (length xs) s (length (framed (entry_record e))) q puts.0)
     where
-      by : (e : Entry) → Fields e → place ≡ q.place → ys ≡ laid p.place (framed (entry_record e)) xs
-          → Put p (length xs) (p.place + length (framed (entry_record e))) (step p.tally (entry_shown e p.place) (p.place + length (framed (entry_record e)))) q → Grown b e q ys place
-      by (heads n) f at same (put_on h s made fits) = goes_on b p xs w (heads n) f q ys same h s made (lies_low (length xs) p.place (length (framed (entry_record (heads n)))) 4 fits)
-      by (heads n) f at same (put_end s made fits) = absurd (end_held p.tally (entry_shown (heads n) p.place) (p.place + length (framed (entry_record (heads n)))) s)
-      by (has_variable v) f at same (put_on h s made fits) = goes_on b p xs w (has_variable v) f q ys same h s made (lies_low (length xs) p.place (length (framed (entry_record (has_variable v)))) 4 fits)
-      by (has_variable v) f at same (put_end s made fits) = absurd (end_held p.tally (entry_shown (has_variable v) p.place) (p.place + length (framed (entry_record (has_variable v)))) s)
-      by (has_constraint c) f at same (put_on h s made fits) = goes_on b p xs w (has_constraint c) f q ys same h s made (lies_low (length xs) p.place (length (framed (entry_record (has_constraint c)))) 4 fits)
-      by (has_constraint (sum l r m k lo hi)) f at same (put_end s made fits) = absurd (end_held p.tally (entry_shown (has_constraint (sum l r m k lo hi)) p.place) (p.place + length (framed (entry_record (has_constraint (sum l r m k lo hi))))) s)
-      by (has_constraint (table l r rows)) f at same (put_end s made fits) = absurd (end_held p.tally (entry_shown (has_constraint (table l r rows)) p.place) (p.place + length (framed (entry_record (has_constraint (table l r rows))))) s)
-      by (has_move m) f at same (put_on h s made fits) = goes_on b p xs w (has_move m) f q ys same h s made (lies_low (length xs) p.place (length (framed (entry_record (has_move m)))) 4 fits)
-      by (has_move (add i)) f at same (put_end s made fits) = absurd (end_held p.tally (entry_shown (has_move (add i)) p.place) (p.place + length (framed (entry_record (has_move (add i))))) s)
-      by (has_move (retract i)) f at same (put_end s made fits) = absurd (end_held p.tally (entry_shown (has_move (retract i)) p.place) (p.place + length (framed (entry_record (has_move (retract i))))) s)
-      by ends_here f at same (put_on h s made fits) = absurd (goes_held p.tally (entry_shown ends_here p.place) (p.place + 4) h s)
-      by ends_here f at same (put_end s made fits) =
-          let l = lies_is (length xs) (p.place + 4) fits in whole b p xs w ys same place (at ∙ ap (λ z. z.place) made) s (omega (arith, l.0)) (omega (arith, l.1))
+      by : Put p (length xs) (p.place + length (framed (entry_record e))) (step p.tally s (p.place + length (framed (entry_record e)))) q → Written (begun_with b e) q ys
+      by (put_on h st made fits) =
+          subst (λ z. Written z q ys) (entry_said b e f)
+          (goes_on b p xs w (entry_record e) ys puts.2 s (kind_is _ _ p.place s shows) (entry_bytes e f) q h st made (lies_low (length xs) p.place (length (framed (entry_record e))) 4 fits))
+      by (put_end st made fits) = absurd (not_last (last_kind e p.tally p.place (p.place + length (framed (entry_record e))) s shows st))
+
+  the_last : PutsEntry p xs ends_here q ys (Ok place) → Whole b place ys
+  the_last (s, shows, puts) = by (put_is p (length xs) s 4 q puts.0)
+    where
+      same : s ≡ shows_end []
+      same = end_shows p.place s shows
+
+      by : Put p (length xs) (p.place + 4) (step p.tally s (p.place + 4)) q → Whole b place ys
+      by (put_on h st made fits) = absurd (goes_held p.tally (shows_end []) (p.place + 4) h (subst (λ t. step p.tally t (p.place + 4) ≡ goes h) same st))
+      by (put_end st made fits) =
+          let l = lies_is (length xs) (p.place + 4) fits in
+          whole b p xs w ys puts.2 place (puts.1 ∙ ap (λ z. z.place) made) (subst (λ t. step p.tally t (p.place + 4) ≡ ends) same st) (omega (arith, l.0)) (omega (arith, l.1))
+
+  grown : (e : Entry) → Fields e → PutsEntry p xs e q ys (Ok place) → Grown b e q ys place
+  grown (heads n) f puts = one_more (heads n) f (λ k. omega arith) puts
+  grown (has_variable v) f puts = one_more (has_variable v) f (λ k. omega arith) puts
+  grown (has_constraint (sum l r m k lo hi)) f puts = one_more (has_constraint (sum l r m k lo hi)) f (λ k. omega arith) puts
+  grown (has_constraint (table l r rows)) f puts = one_more (has_constraint (table l r rows)) f (λ k. omega arith) puts
+  grown (has_move (add i)) f puts = one_more (has_move (add i)) f (λ k. omega arith) puts
+  grown (has_move (retract i)) f puts = one_more (has_move (retract i)) f (λ k. omega arith) puts
+  grown ends_here f puts = the_last puts
 
 -- after any call that puts an entry, one entry more is written, or the sheet is whole, or what was written is as it was
 pub grows : (b : Begun) (p : Pen) (xs : List ℕ) (q : Pen) (ys : List ℕ) (e : Entry) (r : Result ℕ WriteFault) → Fields e → Written b p xs → PutsEntry p xs e q ys r → Grows b e q ys r
 grows b p xs q ys e (Ok place) f w puts = grown b p xs w q ys place e f puts
-grows b p xs q ys e (Err fault) f w puts = subst (λ z. Written b z ys) (sym puts.1) (subst (λ zs. Written b p zs) (sym puts.2) w)
+grows b p xs q ys e (Err fault) f w puts = subst (λ z. Written b z ys) (sym puts.2.1) (subst (λ zs. Written b p zs) (sym puts.2.2) w)
 
 -- a writer that has written nothing
 pub nothing_written : (xs : List ℕ) → Written nothing_begun new_pen xs
 nothing_written xs = record { keeps = nothing_keeps; tallied = refl; reached = refl; bytes = refl }
 
 -- an end that is put closes the writer
-pub end_closes : (p : Pen) (size : ℕ) (q : Pen) → put p size (entry_shown ends_here p.place) (length (framed (entry_record ends_here))) ≡ Ok q → q.is_open ≡ false
-end_closes p size q e = by (by_step p size (p.place + 4) (step p.tally (entry_shown ends_here p.place) (p.place + 4)) q (was_open p.is_open _ q e))
+pub end_closes : (p : Pen) (xs : List ℕ) (q : Pen) (ys : List ℕ) (place : ℕ) → PutsEntry p xs ends_here q ys (Ok place) → q.is_open ≡ false
+end_closes p xs q ys place (s, shows, puts) = by (put_is p (length xs) s 4 q puts.0)
   where
-    by : Put p size (p.place + 4) (step p.tally (entry_shown ends_here p.place) (p.place + 4)) q → q.is_open ≡ false
-    by (put_on h s made fits) = absurd (goes_held p.tally (entry_shown ends_here p.place) (p.place + 4) h s)
-    by (put_end s made fits) = ap (λ z. z.is_open) made
+    by : Put p (length xs) (p.place + 4) (step p.tally s (p.place + 4)) q → q.is_open ≡ false
+    by (put_on h st made fits) = absurd (goes_held p.tally (shows_end []) (p.place + 4) h (subst (λ t. step p.tally t (p.place + 4) ≡ goes h) (end_shows p.place s shows) st))
+    by (put_end st made fits) = ap (λ z. z.is_open) made

@@ -59,7 +59,7 @@ Told bytes (Err f) =
     Over bytes (fault_number f) (fault_byte f) (fault_records f) ⊎ Off bytes (fault_number f) (fault_byte f) (fault_records f)
 
 -- only the end record ends
-the_end : (g : Tally) (r : Raw) (s : Shown) → KindIs r.kind r.body s → EndHeld g s → (complete g ≡ true) × (r ≡ end_record)
+pub the_end : (g : Tally) (r : Raw) (s : Shown) → KindIs r.kind r.body s → EndHeld g s → (complete g ≡ true) × (r ≡ end_record)
 the_end g r (shows_heading body) kind e = absurd e
 the_end g r (shows_variable body) kind e = absurd e
 the_end g r (shows_sum body) kind e = absurd e

@@ -1,5 +1,5 @@
 -- What one call more makes of what stands in the buffer, and of a list of calls.
-use Rattle.std.proofs.Common.{◌≡◌, ℕ, ◌+◌, Bool, true, false, cond, ◌||◌, List, [], ◌∷◌, ◌++◌, length, drop, set, take, Some, None, Ok, Err, Result, sym, refl, ap, ◌∙◌, subst, arith}
+use Rattle.std.proofs.Common.{◌≡◌, ℕ, ◌+◌, Bool, true, false, cond, List, [], ◌∷◌, ◌++◌, drop, set, take, Some, None, Option, Ok, Err, Result, sym, refl, ap, ◌∙◌, subst, arith}
 use Rattle.std.proofs.lemmas.List.{append_assoc, append-nil, drop-drop, drop-set-lt}
 use Rattle.sheet_format.specs.declared.writing.WriteFault.{WriteFault}
 use Rattle.sheet_format.specs.declared.writing.WriteFault.TheVariants.{Closed}
@@ -8,58 +8,57 @@ use Rattle.sheet_format.specs.Writing.{Entry, heads, has_variable, has_constrain
 use Rattle.sheet_format.specs.Written.{begun_with, Written, Whole, Grown, Grows}
 use Rattle.sheet_law.proofs.Growing.{end_closes}
 use Rattle.sheet_writer.specs.declared.calls.Call.{Call}
-use Rattle.sheet_writer.specs.Calls.{asked, Makes, Runs, one_put, all_put, begun_from, begun_by, is_the_end, ended, Stands, unended, whole}
+use Rattle.sheet_writer.specs.Calls.{asked, Makes, Runs, Placed, one_put, all_put, begun_from, begun_by, is_the_end, end_place, Stands, unended, whole}
 
-begun_more : (b : Begun) (es : List Entry) (e : Entry) → begun_from b (es ++ (e ∷ [])) ≡ begun_with (begun_from b es) e
+begun_more : (b : Begun) (es : List Placed) (e : Placed) → begun_from b (es ++ (e ∷ [])) ≡ begun_with (begun_from b es) e.entry
 begun_more b [] e = refl
-begun_more b (d ∷ es) e = begun_more (begun_with b d) es e
+begun_more b (d ∷ es) e = begun_more (begun_with b d.entry) es e
 
-or_nothing : (t : Bool) → (t || false) ≡ t
-or_nothing true = refl
-or_nothing false = refl
+no_place : (n : ℕ) → ◌≡◌ {A = Option ℕ} (Some n) None → ⊥
+no_place n e = let z : ◌≡◌ {A = ℕ} 0 1 = cc in omega arith
 
-or_chain : (s t u : Bool) → (s || (t || u)) ≡ ((s || t) || u)
-or_chain true t u = refl
-or_chain false t u = refl
+-- where no end is among them, it is the last or none
+first_none : (t : Bool) (n : ℕ) (r s u : Option ℕ) → (r ≡ None → s ≡ u) → cond t (Some n) r ≡ None → cond t (Some n) s ≡ u
+first_none true n r s u h e = absurd (no_place n e)
+first_none false n r s u h e = h e
 
-ended_more : (es : List Entry) (e : Entry) → ended (es ++ (e ∷ [])) ≡ (ended es || is_the_end e)
-ended_more [] e = or_nothing (is_the_end e)
-ended_more (d ∷ es) e = ap (λ t. is_the_end d || t) (ended_more es e) ∙ or_chain (is_the_end d) (ended es) (is_the_end e)
+end_more : (es : List Placed) (e : Placed) → end_place es ≡ None → end_place (es ++ (e ∷ [])) ≡ end_place (e ∷ [])
+end_more [] e none = refl
+end_more (d ∷ es) e none = first_none (is_the_end d.entry) d.place (end_place es) (end_place (es ++ (e ∷ []))) (end_place (e ∷ [])) (end_more es e) none
 
 never : (r : Result Pen WriteFault) (q : Pen) (t : Bool) → t ≡ false → cond t r (Err Closed) ≡ Ok q → ⊥
 never r q false e f = let z : ◌≡◌ {A = ℕ} 0 1 = cc in omega arith
 never r q true e f = let z : ◌≡◌ {A = ℕ} 0 1 = cc in omega arith
 
 -- an entry more that is not the end
-one_more : (es : List Entry) (e : Entry) (q : Pen) (ys : List ℕ) → is_the_end e ≡ false → ended es ≡ false → Written (begun_with (begun_by es) e) q ys → Stands (es ++ (e ∷ [])) q ys
-one_more es e q ys last none w =
-    unended (ended_more es e ∙ ap (λ t. t || is_the_end e) none ∙ last) (subst (λ b. Written b q ys) (sym (begun_more nothing_begun es e)) w)
+one_more : (es : List Placed) (e : Placed) (q : Pen) (ys : List ℕ) → end_place (e ∷ []) ≡ None → end_place es ≡ None → Written (begun_with (begun_by es) e.entry) q ys → Stands (es ++ (e ∷ [])) q ys
+one_more es e q ys last none w = unended (end_more es e none ∙ last) (subst (λ b. Written b q ys) (sym (begun_more nothing_begun es e)) w)
 
-accepted : (es : List Entry) (e : Entry) (p : Pen) (xs : List ℕ) (q : Pen) (ys : List ℕ) (place : ℕ) → PutsEntry p xs e q ys (Ok place) → ended es ≡ false
-    → Grown (begun_by es) e q ys place → Stands (es ++ (e ∷ [])) q ys
-accepted es (heads n) p xs q ys place puts none w = one_more es (heads n) q ys refl none w
-accepted es (has_variable v) p xs q ys place puts none w = one_more es (has_variable v) q ys refl none w
-accepted es (has_constraint c) p xs q ys place puts none w = one_more es (has_constraint c) q ys refl none w
-accepted es (has_move m) p xs q ys place puts none w = one_more es (has_move m) q ys refl none w
+accepted : (es : List Placed) (e : Entry) (p : Pen) (xs : List ℕ) (q : Pen) (ys : List ℕ) (place : ℕ) → PutsEntry p xs e q ys (Ok place) → end_place es ≡ None
+    → Grown (begun_by es) e q ys place → Stands (es ++ one_put (Some e) (Ok place)) q ys
+accepted es (heads n) p xs q ys place puts none w = one_more es _ q ys refl none w
+accepted es (has_variable v) p xs q ys place puts none w = one_more es _ q ys refl none w
+accepted es (has_constraint c) p xs q ys place puts none w = one_more es _ q ys refl none w
+accepted es (has_move m) p xs q ys place puts none w = one_more es _ q ys refl none w
 accepted es ends_here p xs q ys place puts none w =
-    whole (ended_more es ends_here ∙ ap (λ t. t || true) none) (end_closes p (length xs) q puts.0)
-    (subst (λ b. Whole b q.place ys) (sym (begun_more nothing_begun es ends_here)) (subst (λ n. Whole (begun_by es) n ys) puts.1 w))
+    let last : Placed = record { entry = ends_here; place = place } in
+    whole place (end_more es last none) (end_closes p xs q ys place puts) (subst (λ b. Whole b place ys) (sym (begun_more nothing_begun es last)) w)
 
-same_stands : (es : List Entry) (p : Pen) (xs : List ℕ) (q : Pen) (ys : List ℕ) → q ≡ p → ys ≡ xs → Stands es p xs → Stands (es ++ []) q ys
+same_stands : (es : List Placed) (p : Pen) (xs : List ℕ) (q : Pen) (ys : List ℕ) → q ≡ p → ys ≡ xs → Stands es p xs → Stands (es ++ []) q ys
 same_stands es p xs q ys e f s =
     subst (λ ds. Stands ds q ys) (sym (append-nil es)) (subst (λ z. Stands es z ys) (sym e) (subst (λ zs. Stands es p zs) (sym f) s))
 
 pub stands_more : (e : Entry) (p : Pen) (xs : List ℕ) (q : Pen) (ys : List ℕ) (r : Result ℕ WriteFault) → PutsEntry p xs e q ys r → ((b : Begun) → Written b p xs → Grows b e q ys r)
-    → (es : List Entry) → Stands es p xs → Stands (es ++ one_put (Some e) r) q ys
+    → (es : List Placed) → Stands es p xs → Stands (es ++ one_put (Some e) r) q ys
 stands_more e p xs q ys (Ok place) puts grows es (unended none w) = accepted es e p xs q ys place puts none (grows (begun_by es) w)
-stands_more e p xs q ys (Ok place) puts grows es (whole last shut w) = absurd (never _ q p.is_open shut puts.0)
-stands_more e p xs q ys (Err fault) puts grows es s = same_stands es p xs q ys puts.1 puts.2 s
+stands_more e p xs q ys (Ok place) puts grows es (whole place_was last shut w) = absurd (never _ q p.is_open shut puts.2.0)
+stands_more e p xs q ys (Err fault) puts grows es s = same_stands es p xs q ys puts.2.1 puts.2.2 s
 
-closed_stands : (es : List Entry) (p : Pen) (xs : List ℕ) → Stands es p xs → Stands es (closed p) xs
+closed_stands : (es : List Placed) (p : Pen) (xs : List ℕ) → Stands es p xs → Stands es (closed p) xs
 closed_stands es p xs (unended none w) = unended none (record { keeps = w.keeps; tallied = w.tallied; reached = w.reached; bytes = w.bytes })
-closed_stands es p xs (whole last shut w) = whole last refl w
+closed_stands es p xs (whole place last shut w) = whole place last refl w
 
-pub stands_abandoned : (p : Pen) (xs : List ℕ) (q : Pen) (ys : List ℕ) (r : Result ℕ WriteFault) → Abandons p q r → ys ≡ xs → (es : List Entry) → Stands es p xs → Stands (es ++ one_put None r) q ys
+pub stands_abandoned : (p : Pen) (xs : List ℕ) (q : Pen) (ys : List ℕ) (r : Result ℕ WriteFault) → Abandons p q r → ys ≡ xs → (es : List Placed) → Stands es p xs → Stands (es ++ one_put None r) q ys
 stands_abandoned p xs q ys (Ok place) a same es s = same_stands es (closed p) xs q ys a.1 same (closed_stands es p xs s)
 stands_abandoned p xs q ys (Err fault) a same es s = same_stands es p xs q ys a.1 same s
 
@@ -77,7 +76,7 @@ runs_more p xs (d ∷ cs) (t ∷ rs) m zs c r q ys s makes =
 -- the calls up to one more of a list
 pub taken_more : (p : Pen) (xs : List ℕ) (calls : List Call) (i : ℕ) (rs answers : List (Result ℕ WriteFault)) (m : Pen) (zs : List ℕ) (c : Call) (r : Result ℕ WriteFault) (q : Pen) (ys : List ℕ)
     → take (i + 1) calls ≡ take i calls ++ (c ∷ []) → answers ≡ rs ++ (r ∷ []) → Runs p xs (take i calls) rs m zs → Stands (all_put (take i calls) rs) m zs → Makes m zs (asked c) q ys r
-    → ((es : List Entry) → Stands es m zs → Stands (es ++ one_put (asked c) r) q ys)
+    → ((es : List Placed) → Stands es m zs → Stands (es ++ one_put (asked c) r) q ys)
     → (Runs p xs (take (i + 1) calls) answers q ys) × Stands (all_put (take (i + 1) calls) answers) q ys
 taken_more p xs calls i rs answers m zs c r q ys e f runs stands makes on =
     let more = runs_more p xs (take i calls) rs m zs c r q ys runs makes in

@@ -1,5 +1,5 @@
 -- What a list of a writer's calls does, call by call, and what stands in the buffer after it.
-use Rattle.std.specs.Prelude.{◌≡◌, ℕ, Bool, true, false, ◌||◌, List, [], ◌∷◌, ◌++◌, Some, None, Option, Ok, Err, Result}
+use Rattle.std.specs.Prelude.{◌≡◌, ℕ, Bool, true, false, cond, List, [], ◌∷◌, ◌++◌, Some, None, Option, Ok, Err, Result}
 use Rattle.sheet_format.specs.declared.writing.WriteFault.{WriteFault}
 use Rattle.sheet_format.specs.Value.{sum, table, add, retract}
 use Rattle.sheet_format.specs.Beginnings.{Begun, nothing_begun}
@@ -31,23 +31,28 @@ Runs p xs [] (r ∷ rs) q ys = ⊥
 Runs p xs (c ∷ cs) [] q ys = ⊥
 Runs p xs (c ∷ cs) (r ∷ rs) q ys = (m : Pen) × (zs : List ℕ) × Makes p xs (asked c) m zs r × Runs m zs cs rs q ys
 
--- the entries that were put: those of the accepted calls
-abbrev pub one_put : Option Entry → Result ℕ WriteFault → List Entry
-one_put (Some e) (Ok place) = e ∷ []
+-- an entry that was put, and the place that the call answered
+pub record Placed : Type 0 where
+  pub entry : Entry
+  pub place : ℕ
+
+-- what was put: the entries of the accepted calls
+abbrev pub one_put : Option Entry → Result ℕ WriteFault → List Placed
+one_put (Some e) (Ok place) = record { entry = e; place = place } ∷ []
 one_put (Some e) (Err fault) = []
 one_put None r = []
 
-abbrev pub all_put : List Call → List (Result ℕ WriteFault) → List Entry
+abbrev pub all_put : List Call → List (Result ℕ WriteFault) → List Placed
 all_put [] rs = []
 all_put (c ∷ cs) [] = []
 all_put (c ∷ cs) (r ∷ rs) = one_put (asked c) r ++ all_put cs rs
 
 -- what they begin, in their order
-abbrev pub begun_from : Begun → List Entry → Begun
+abbrev pub begun_from : Begun → List Placed → Begun
 begun_from b [] = b
-begun_from b (e ∷ es) = begun_from (begun_with b e) es
+begun_from b (e ∷ es) = begun_from (begun_with b e.entry) es
 
-abbrev pub begun_by : List Entry → Begun
+abbrev pub begun_by : List Placed → Begun
 begun_by es = begun_from nothing_begun es
 
 abbrev pub is_the_end : Entry → Bool
@@ -57,15 +62,16 @@ is_the_end (has_constraint c) = false
 is_the_end (has_move m) = false
 is_the_end ends_here = true
 
--- the end is among them
-abbrev pub ended : List Entry → Bool
-ended [] = false
-ended (e ∷ es) = is_the_end e || ended es
+-- the place that was answered to the end, if it is among them
+abbrev pub end_place : List Placed → Option ℕ
+end_place [] = None
+end_place (e ∷ es) = cond (is_the_end e.entry) (Some e.place) (end_place es)
 
--- What stands in the buffer when these entries were put: a beginning of a sheet, or, if the end is among them, the whole sheet, and the writer is closed.
-pub data Stands (es : List Entry) (p : Pen) (buffer : List ℕ) : Type 0 where
-  unended : ended es ≡ false → Written (begun_by es) p buffer → Stands es p buffer
-  whole : ended es ≡ true → p.is_open ≡ false → Whole (begun_by es) p.place buffer → Stands es p buffer
+-- What stands in the buffer when these entries were put: a beginning of a sheet, or, if the end is among them, the whole sheet before the place that
+-- was answered to the end, and the writer is closed.
+pub data Stands (es : List Placed) (p : Pen) (buffer : List ℕ) : Type 0 where
+  unended : end_place es ≡ None → Written (begun_by es) p buffer → Stands es p buffer
+  whole : (place : ℕ) → end_place es ≡ Some place → p.is_open ≡ false → Whole (begun_by es) place buffer → Stands es p buffer
 
 -- A writer's calls were made on a buffer, which was `xs` and is `ys`; the entries that were put stand there.
 pub record Wrote (xs : List ℕ) (calls : List Call) (answers : List (Result ℕ WriteFault)) (ys : List ℕ) : Type 0 where

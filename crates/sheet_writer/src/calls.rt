@@ -1,7 +1,6 @@
 // A list of a writer's calls, made one after the other.
 ghost use Rattle.std.specs.Prelude.{◌≡◌, List, ◌++◌, drop, length, take};
-ghost use Rattle.sheet_format.specs.Writing.{Entry};
-ghost use Rattle.sheet_writer.specs.Calls.{asked, Makes, one_put, Stands, Wrote};
+ghost use Rattle.sheet_writer.specs.Calls.{asked, Makes, Placed, one_put, Stands, Wrote};
 
 use sheet::{Formula, Writer};
 use sheet_format::{Variable, WriteFault};
@@ -30,7 +29,7 @@ pub enum Call<'a> {
 // one call
 fn make(writer: &mut Writer, buffer: &mut [u8], call: Call<'_>) -> Result<usize, WriteFault>
     ensures call { Makes writer.old buffer.old (asked call.entry) writer.new buffer.new result }
-    ensures stands { (entries : List Entry) → Stands entries writer.old buffer.old → Stands (entries ++ one_put (asked call.entry) result) writer.new buffer.new }
+    ensures stands { (entries : List Placed) → Stands entries writer.old buffer.old → Stands (entries ++ one_put (asked call.entry) result) writer.new buffer.new }
 {
     match call {
         Call::Heading(n) => writer.heading(buffer, n),

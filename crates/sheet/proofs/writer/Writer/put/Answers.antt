@@ -1,43 +1,30 @@
-use Rattle.std.proofs.Common.{◌≡◌, ◌+◌, not, length, Some, Ok, Err, sym, refl, ◌∙◌, subst, arith, rules}
-use Rattle.sheet_format.specs.declared.writing.WriteFault.TheVariants.{NoRoom}
+use Rattle.std.proofs.Common.{◌≡◌, ◌+◌, not, length, Ok, Err, refl, sym, ap, ◌∙◌, subst, arith, rules}
+use Rattle.std.proofs.lemmas.Result.{err_from_is_err_and}
 use Rattle.sheet_format.specs.Kinds.{kind_number}
 use Rattle.sheet_format.specs.Encoding.{framed}
-use Rattle.sheet_format.specs.Reading.{shown}
-use Rattle.sheet_format.specs.Verdict.{step}
-use Rattle.sheet_format.specs.Writing.{Pen, put}
-use Rattle.sheet.specs.Steps.{next_step}
-use Rattle.sheet.proofs.Putting.{same_shown, became_moves, became_low, put_fits, put_no_room}
+use Rattle.sheet_format.specs.Writing.{put, Puts}
+use Rattle.sheet.specs.Steps.{next_step, Became}
+use Rattle.sheet.proofs.Entries.{some_shown}
+use Rattle.sheet.proofs.Putting.{put_fits}
 use Rattle.sheet.proofs.writer.Writer.put.Goals as goal
 
-pub returns-then-not-lies_in : goal.returns-then-not-lies_in
-returns-then-not-lies_in c = λ s e.
-    let w = c.self.inside in
-    let p : Pen = record { tally = c.self.inside.progress; place = c.self.inside.place; is_open = c.self.inside.is_open } in
-    let same = same_shown _ s (sym c.record_of.ensures ∙ subst (λ q. shown (kind_number c.args.kind) c.args.body.now q.place ≡ Some s) (sym c.self.view_is) e) in (
-      subst (λ q. put q (length c.args.buffer.now) s (length (framed (record { kind = kind_number c.args.kind; body = c.args.body.now }))) ≡ Err NoRoom) c.self.view_is
-          (put_no_room p (length c.args.buffer.now) (length c.args.body.now) (length (framed (record { kind = kind_number c.args.kind; body = c.args.body.now }))) s (search rules) (omega arith) c.in_ok-next.next
-          (subst (λ t. step w.progress t (w.place + (4 + length c.args.body.now)) ≡ next_step w.progress (w.place + (4 + length c.args.body.now)) c.in_ok-next.next) same (c.in_ok-next.ensures.0 (w.place + (4 + length c.args.body.now))))
-          (search rules)),
-      refl,
-      refl,
-    )
-
-pub invariant_of-self : goal.invariant_of-self
-invariant_of-self c =
-    let m = became_moves _ _ _ _ c.take.ensures in
-    let i = c.self.invariant in
-    (search rules, omega arith, became_low _ _ _ _ c.take.ensures c.in_ok-next.ensures.1 i.2)
+pub returns-in_err-next : goal.returns-in_err-next
+returns-in_err-next c =
+    let z = some_shown c.args.kind c.args.body.now c.args.self.now.place in
+    let p = err_from_is_err_and c.from_residual.result c.from_residual.ensures.1 in
+    let bytes = framed (record { kind = kind_number c.args.kind; body = c.args.body.now }) in
+    let long : 4 + length c.args.body.now ≡ length bytes = omega arith in
+    let so = subst (λ n. put c.args.self.now (length c.args.buffer.now) z.shows n ≡ Err c.in_err-next.field-0.0) long (c.in_err-next.ensures.judged z.shows z.is) in
+    (z.shows, z.is, subst (Puts c.args.self.now c.args.buffer.now z.shows bytes c.args.self.now c.args.buffer.now) (sym (p.1 ∙ ap Err p.2)) (so, refl, refl))
 
 pub returns : goal.returns
-returns c = λ s e.
-    let w = c.self.inside in
-    let p : Pen = record { tally = c.self.inside.progress; place = c.self.inside.place; is_open = c.self.inside.is_open } in
-    let same = same_shown _ s (sym c.record_of.ensures ∙ subst (λ q. shown (kind_number c.args.kind) c.args.body.now q.place ≡ Some s) (sym c.self.view_is) e) in (
-      subst (λ q. put q (length c.args.buffer.now) s (length (framed (record { kind = kind_number c.args.kind; body = c.args.body.now }))) ≡ Ok (record { tally = c.take.new.self; place = c.self.inside.place + (4 + length c.args.body.now); is_open = not c.is_end.result })) c.self.view_is
-          (put_fits p (length c.args.buffer.now) (length c.args.body.now) (length (framed (record { kind = kind_number c.args.kind; body = c.args.body.now }))) s (search rules) (omega arith) c.in_ok-next.next c.take.new.self c.is_end.result c.is_end.ensures
-          (subst (λ t. step w.progress t (w.place + (4 + length c.args.body.now)) ≡ next_step w.progress (w.place + (4 + length c.args.body.now)) c.in_ok-next.next) same (c.in_ok-next.ensures.0 (w.place + (4 + length c.args.body.now))))
-          c.take.ensures
-          (search rules)),
-      refl,
-      search rules,
-    )
+returns c =
+    let z = some_shown c.args.kind c.args.body.now c.args.self.now.place in
+    let p = c.args.self.now in
+    let size = length c.args.buffer.now in
+    let after = c.in_ok-next.after in
+    let room = c.in_ok-next.ensures.room in
+    let long : 4 + length c.args.body.now ≡ length (framed (record { kind = kind_number c.args.kind; body = c.args.body.now })) = omega arith in
+    let became = subst (λ q. Became q.tally (next_step q.tally c.in_ok-next.after c.in_ok-next.next) c.take.new.self) c.self.view_is c.take.ensures in
+    let fits = put_fits p size (4 + length c.args.body.now) after z.shows room.0 room.1 c.in_ok-next.next c.take.new.self c.is_end.result c.is_end.ensures (c.in_ok-next.ensures.judged z.shows z.is) became room.2 in
+    (z.shows, z.is, (subst (λ n. put p size z.shows n ≡ Ok (record { tally = c.take.new.self; place = after; is_open = not c.is_end.result })) long fits, refl, search rules))
