@@ -9,6 +9,7 @@ mod values;
 pub use values::Values;
 
 // Is x in the set d? No for an x past the width.
+#[tactic(auto, using(crate::proofs::Coded::code_has, crate::proofs::Coded::past_has))]
 pub fn has(d: u64, x: usize) -> bool
     ensures { result ≡ has_bit d x }
 {
@@ -16,6 +17,7 @@ pub fn has(d: u64, x: usize) -> bool
 }
 
 // The set d without x.
+#[tactic(auto, using(crate::proofs::Coded::has_width, crate::proofs::Coded::code_cleared))]
 pub fn without(d: u64, x: usize) -> u64
     ensures { (y : ℕ) → has_bit result y ≡ (has_bit d y && not (x == y)) }
 {
@@ -23,6 +25,7 @@ pub fn without(d: u64, x: usize) -> u64
 }
 
 // The set d with x, where x lies within the width.
+#[tactic(auto, using(crate::proofs::Coded::code_added))]
 pub fn with(d: u64, x: usize) -> u64
     ensures { (y : ℕ) → has_bit result y ≡ (has_bit d y || (x == y && nat_lt x 64)) }
 {
@@ -30,6 +33,7 @@ pub fn with(d: u64, x: usize) -> u64
 }
 
 // The set of all values below n, of those within the width.
+#[tactic(auto, using(crate::proofs::Coded::code_below, crate::proofs::Coded::all_below))]
 pub fn below(n: usize) -> u64
     ensures { (y : ℕ) → has_bit result y ≡ (nat_lt y n && nat_lt y 64) }
 {

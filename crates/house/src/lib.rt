@@ -281,6 +281,7 @@ const ROWS: [[u64; 64]; 4] = [
 ];
 
 // The table; that it is the formulas' is one computed proof over all its bits.
+#[tactic(auto, unfolding(crate::specs::Table::agrees, crate::specs::Table::row_agrees, crate::specs::Table::all_below, bits::specs::Bits::bit_at))]
 fn rows() -> &'static [[u64; 64]; 4]
     ensures full { length result.now ≡ 4 }
     ensures right { agrees result.now ≡ true }
@@ -289,6 +290,7 @@ fn rows() -> &'static [[u64; 64]; 4]
 }
 
 // The row of value `x` of the first end of constraint `p`: the set of values that may stand beside it.
+#[tactic(auto, using(crate::proofs::Tables::row_right))]
 fn row(p: usize, x: usize) -> u64
     requires { (p < 4) × (x < 64) }
     ensures { (y : ℕ) → has_bit result y ≡ (nat_lt y 64 && house.allows p x y) }

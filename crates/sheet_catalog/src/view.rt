@@ -8,6 +8,7 @@ ghost use Rattle.sheet.specs.Outcome.{shown_by};
 ghost use Rattle.sheet_catalog.specs.Viewed.{meant, sum_shown, constraint_shown};
 
 use sheet::{Formula, Record};
+use sheet_format::row;
 
 // Which pairs a constraint allows.
 #[derive(Clone, Copy)]
@@ -89,9 +90,7 @@ fn holds(formula: Formula, x: u8, y: u8) -> bool
 fn row_has(rows: &[u8], x: usize, y: usize) -> bool
     ensures { result ≡ table_allows (rows_in (length rows.now / 8) rows.now) x y }
 {
-    let (rows, _) = rows.as_chunks::<8>();
-    rows.get(x)
-        .is_some_and(|row| bits::has(u64::from_le_bytes(*row), y))
+    x < rows.len() / 8 && bits::has(row(rows, 8 * x), y)
 }
 
 impl<'a> Constraint<'a> {

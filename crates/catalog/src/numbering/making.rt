@@ -20,6 +20,14 @@ fn all_stand(to: &[usize; 32]) -> bool
     (0..32).all(|e| stands(to, e))
 }
 
+// each of the 32 numbers at its own place
+fn in_order() -> [usize; 32]
+    ensures wide { length result ≡ 32 }
+    ensures own { (e : ℕ) → e < 32 → entry result e ≡ e }
+{
+    array::from_fn(|e| e)
+}
+
 impl Numbering {
     // The numbering that the list is, or none where it is not one.
     pub fn new(list: &[usize]) -> Option<Numbering>
@@ -37,9 +45,7 @@ impl Numbering {
     pub fn identity() -> Numbering
         ensures { (e : ℕ) → e < 32 → entry result.to e ≡ e }
     {
-        Numbering {
-            to: array::from_fn(|e| e),
-        }
+        Numbering { to: in_order() }
     }
 
     // Entry `e`, where there is one.
