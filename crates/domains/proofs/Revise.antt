@@ -13,12 +13,12 @@ use Rattle.justify.proofs.Keeps.{same_trans, dated_trans, dated_put_out, put_out
 use Rattle.domains.specs.declared.Arc.{Arc}
 use Rattle.domains.specs.declared.Constraints.{Constraints}
 use Rattle.domains.specs.declared.Domains.{Domains}
-use Rattle.domains.specs.Model.{within, arcs_of, shown, standing, total, row}
+use Rattle.domains.specs.Model.{within, arcs_of, shown, standing, total, row, no_justification}
 use Rattle.domains.specs.Sound.{Sound, Went, Facing, Revising}
 use Rattle.domains.proofs.Values.{out_total}
 
 pub total_positive : (d : Domains) (i x : ℕ) → i < 32 → x < 64 → shown d i x ≡ true → 0 < total d.sets
-total_positive d i x low fits was = omega (arith, out_total d i x low fits 0 was)
+total_positive d i x low fits was = omega (arith, out_total d i x low fits no_justification was)
 
 -- ---- values go out
 

@@ -11,6 +11,7 @@ use Rattle.bits.proofs.Bitwise.{bit_low}
 use Rattle.bits.proofs.Edits.{has_cleared, has_added, ones_cleared, ones_added}
 use Rattle.justify.specs.Changes.{PutOut, PutBack}
 use Rattle.domains.specs.declared.Domains.{Domains}
+use Rattle.domains.specs.declared.Justification.{Justification}
 use Rattle.domains.specs.Model.{entry, shown, standing, total}
 use Rattle.domains.proofs.Entries.{each_set, entry_same, entry_other, total-set}
 
@@ -55,14 +56,14 @@ module _ (d : Domains) (i x : ℕ) (low : i < 32) (fits : x < 64) where
       (λ ne. omega (arith, sets_others v j ne, d.wide j)) (cases_eq j i)
 
   -- the data after the value went out, and after it came back
-  abbrev pub without : ℕ → Domains
-  without p = record {
+  abbrev pub without : Justification → Domains
+  without why = record {
     sets = set d.sets i (bit_xor (get_or d.sets i 0) ((1 * 2 ^ x) % 2 ^ 64));
-    why = set d.why i (set (get_or d.why i []) x (record { constraint = p; time = d.clock }));
+    why = set d.why i (set (get_or d.why i []) x why);
     clock = d.clock + 1;
     sets_long = length-set d.sets i _ ∙ d.sets_long;
     why_long = length-set d.why i _ ∙ d.why_long;
-    each_why_long = each_set d.why i (set (get_or d.why i []) x (record { constraint = p; time = d.clock })) 32 64 d.why_long
+    each_why_long = each_set d.why i (set (get_or d.why i []) x why) 32 64 d.why_long
         (length-set (get_or d.why i []) x _ ∙ d.each_why_long i low) d.each_why_long;
     wide = sets_wide (bit_xor (get_or d.sets i 0) ((1 * 2 ^ x) % 2 ^ 64)) (rw (one_shl x 64 fits) (xor_lt 64 (get_or d.sets i 0) (2 ^ x) (d.wide i) (pow-lt fits)));
   }
@@ -78,40 +79,40 @@ module _ (d : Domains) (i x : ℕ) (low : i < 32) (fits : x < 64) where
     wide = sets_wide (bit_or (get_or d.sets i 0) ((1 * 2 ^ x) % 2 ^ 64)) (rw (one_shl x 64 fits) (or_lt 64 (get_or d.sets i 0) (2 ^ x) (d.wide i) (pow-lt fits)));
   }
 
-  written : (p : ℕ) → entry (without p).why i x ≡ record { constraint = p; time = d.clock }
-  written p = entry_same d.why i x (record { constraint = p; time = d.clock }) (omega (arith, d.why_long)) (omega (arith, d.each_why_long i low))
+  written : (why : Justification) → entry (without why).why i x ≡ why
+  written why = entry_same d.why i x why (omega (arith, d.why_long)) (omega (arith, d.each_why_long i low))
 
-  unwritten : (p j y : ℕ) → ((i ≡ j) × (x ≡ y) → ⊥) → entry (without p).why j y ≡ entry d.why j y
-  unwritten p j y ne = entry_other d.why i x (record { constraint = p; time = d.clock }) j y (omega (arith, d.why_long)) ne
+  unwritten : (why : Justification) (j y : ℕ) → ((i ≡ j) × (x ≡ y) → ⊥) → entry (without why).why j y ≡ entry d.why j y
+  unwritten why j y ne = entry_other d.why i x why j y (omega (arith, d.why_long)) ne
 
-  pub put_out : (p : ℕ) → shown d i x ≡ true → PutOut (standing d) (standing (without p)) i x p d.clock
-  put_out p was =
+  pub put_out : (why : Justification) (p : ℕ) → why ≡ record { constraint = p; time = d.clock } → shown d i x ≡ true → PutOut (standing d) (standing (without why)) i x p d.clock
+  put_out why p is was =
       record {
         shown = was;
         gone = here x ∙ ap (λ b. has_bit (get_or d.sets i 0) x && not b) (eq-eqb x x refl) ∙ and_no (has_bit (get_or d.sets i 0) x);
-        reason = ap (λ j. j.constraint) (written p);
-        time = ap (λ j. j.time) (written p);
+        reason = ap (λ j. j.constraint) (written why ∙ is);
+        time = ap (λ j. j.time) (written why ∙ is);
         others = λ j y ne.
             record {
               shown = ⊎_elim (λ e. other_here j y ne e) (λ n. set_there d.sets i _ (omega (arith, d.sets_long)) j y n) (cases_eq j i);
-              reason = ap (λ k. k.constraint) (unwritten p j y ne);
-              time = ap (λ k. k.time) (unwritten p j y ne);
+              reason = ap (λ k. k.constraint) (unwritten why j y ne);
+              time = ap (λ k. k.time) (unwritten why j y ne);
             };
       }
     where
-      here : (y : ℕ) → shown (without p) i y ≡ (has_bit (get_or d.sets i 0) y && not (eqb x y))
+      here : (y : ℕ) → shown (without why) i y ≡ (has_bit (get_or d.sets i 0) y && not (eqb x y))
       here y =
           set_here d.sets i (bit_xor (get_or d.sets i 0) ((1 * 2 ^ x) % 2 ^ 64)) (omega (arith, d.sets_long)) y
           ∙ ap (λ n. has_bit (bit_xor (get_or d.sets i 0) n) y) (one_shl x 64 fits)
           ∙ has_cleared (get_or d.sets i 0) x y was
 
-      other_here : (j y : ℕ) → ((i ≡ j) × (x ≡ y) → ⊥) → j ≡ i → shown (without p) j y ≡ shown d j y
+      other_here : (j y : ℕ) → ((i ≡ j) × (x ≡ y) → ⊥) → j ≡ i → shown (without why) j y ≡ shown d j y
       other_here j y ne e =
           let apart : eqb x y ≡ false = ne_eqb x y (λ f. ne (sym e, f)) in
           rw e (here y ∙ ap (λ b. has_bit (get_or d.sets i 0) y && not b) apart ∙ and_yes (has_bit (get_or d.sets i 0) y))
 
-  pub out_total : (p : ℕ) → shown d i x ≡ true → total (without p).sets + 1 ≡ total d.sets
-  out_total p was =
+  pub out_total : (why : Justification) → shown d i x ≡ true → total (without why).sets + 1 ≡ total d.sets
+  out_total why was =
       let v : ℕ = bit_xor (get_or d.sets i 0) ((1 * 2 ^ x) % 2 ^ 64) in
       let e : ones v + 1 ≡ ones (get_or d.sets i 0) = ap (λ n. ones (bit_xor (get_or d.sets i 0) n) + 1) (one_shl x 64 fits) ∙ ones_cleared 64 (get_or d.sets i 0) x (d.wide i) fits (bit_one (get_or d.sets i 0) x was) in
       omega (arith, e, total-set d.sets i v (omega (arith, d.sets_long)))

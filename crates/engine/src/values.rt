@@ -6,6 +6,16 @@ ghost use Rattle.domains.specs.Model.{shown, standing, total};
 use crate::value::Value;
 use domains::{Domains, Justification};
 
+// The justification of a value that goes out by the constraint.
+fn reason(d: &Domains, constraint: usize) -> Justification
+    ensures { result ≡ record { constraint = constraint; time = d.now.clock } }
+{
+    Justification {
+        constraint,
+        time: d.clock,
+    }
+}
+
 // Puts the value out by the constraint, at the clock's time.
 pub(crate) fn put_out(d: &mut Domains, at: Value, constraint: usize)
     requires time { d.old.clock + 1 < 2 ^ 32 }
@@ -15,11 +25,9 @@ pub(crate) fn put_out(d: &mut Domains, at: Value, constraint: usize)
     ensures fewer { total d.new.sets + 1 ≡ total d.old.sets }
     ensures others { (j : ℕ) → (j ≢ at.variable) → slice_index d.new.sets j ≡ slice_index d.old.sets j }
 {
+    let why = reason(d, constraint);
     d.sets[at.variable] ^= 1 << at.value;
-    d.why[at.variable][at.value] = Justification {
-        constraint,
-        time: d.clock,
-    };
+    d.why[at.variable][at.value] = why;
     d.clock += 1;
 }
 

@@ -8,13 +8,13 @@ returns c =
     let i = c.args.at.variable in
     let x = c.args.at.value in
     record {
-      put = put_out d i x c.args.at.variable_low c.args.at.value_low c.args.constraint c.requires.was;
+      put = put_out d i x c.args.at.variable_low c.args.at.value_low c.reason-why.result c.args.constraint c.reason-why.ensures c.requires.was;
       clock = refl;
-      fewer = out_total d i x c.args.at.variable_low c.args.at.value_low c.args.constraint c.requires.was;
+      fewer = out_total d i x c.args.at.variable_low c.args.at.value_low c.reason-why.result c.requires.was;
       others = sets_others d i x c.args.at.variable_low c.args.at.value_low _;
     }
 
 pub invariant_of-d : goal.invariant_of-d
 invariant_of-d c =
-    let e = without c.args.d.now c.args.at.variable c.args.at.value c.args.at.variable_low c.args.at.value_low c.args.constraint in
+    let e = without c.args.d.now c.args.at.variable c.args.at.value c.args.at.variable_low c.args.at.value_low c.reason-why.result in
     record { sets_long = e.sets_long; why_long = e.why_long; each_why_long = e.each_why_long; wide = e.wide }
