@@ -1,0 +1,77 @@
+// The largest domains from scratch.
+use crate::words::{Group, Line};
+use catalog::Catalog;
+use scratch::largest_domains;
+use wiped::wiped_out;
+
+// What the result list holds before the call: no case has these domains.
+const UNTOUCHED: u64 = 0x5555_5555_5555_5555;
+
+// A call of `largest_domains`: the sizes, the indices, and how many entries the result list has.
+#[derive(Clone, Copy)]
+struct Request<'a> {
+    sizes: &'a [usize],
+    indices: &'a [usize],
+    entries: usize,
+}
+
+fn asked<'a>(groups: &'a [Group<'_>]) -> Option<Request<'a>> {
+    let [first, second, third] = groups else {
+        return None;
+    };
+    match (
+        first.word,
+        second.word,
+        third.word,
+        third.numbers.as_slice(),
+    ) {
+        ("largest", "under", "into", [entries]) => Some(Request {
+            sizes: &first.numbers,
+            indices: &second.numbers,
+            entries: *entries,
+        }),
+        _ => None,
+    }
+}
+
+fn answer<C: Catalog>(rt: &HostRuntime, catalog: &C, request: Request<'_>) -> anyhow::Result<()> {
+    let mut list = vec![in rt.alloc(); UNTOUCHED; request.entries]?;
+    match largest_domains(catalog, request.sizes, request.indices, &mut list) {
+        Ok(()) => {
+            let count = request.sizes.len().min(list.len());
+            let domains = &list[..count];
+            for domain in domains {
+                print!(rt; " 0x{domain:x}")?;
+            }
+            match wiped_out(domains) {
+                Some(variable) => print!(rt; ", wiped out {variable}")?,
+                None => print!(rt; ", wiped out none")?,
+            }
+        }
+        Err(refusal) => print!(rt; " {refusal}")?,
+    }
+    let kept = list.iter().filter(|entry| **entry == UNTOUCHED).count();
+    println!(rt; ", kept {kept}")?;
+    Ok(())
+}
+
+// Works each line out and prints it.
+pub fn largest<C: Catalog>(
+    rt: &HostRuntime,
+    catalog: &C,
+    lines: &[Line<'_>],
+) -> anyhow::Result<()> {
+    for line in lines {
+        let text = line.text;
+        if line.is_title() {
+            println!(rt; "{text}")?;
+            continue;
+        }
+        print!(rt; "{text}:")?;
+        match asked(&line.groups) {
+            Some(request) => answer(rt, catalog, request)?,
+            None => println!(rt; " unreadable")?,
+        }
+    }
+    Ok(())
+}
