@@ -1,5 +1,5 @@
 -- The rows of a table as chunks of eight bytes, and what a shift leaves of a row.
-use Rattle.std.proofs.Common.{◌≡◌, ℕ, zero, suc, ◌*◌, ◌<◌, ◌≤◌, ◌/◌, ◌^◌, true, ◌&&◌, eqb, ltb, List, [], ◌∷◌, ◌++◌, length, take, drop, refl, sym, ap, ◌∙◌, ⊎_elim, le_trans, w64, get_or, lit<, arith, pow_pos, pow_mono}
+use Rattle.std.proofs.Common.{◌≡◌, ℕ, zero, suc, ◌+◌, ◌*◌, ◌<◌, ◌≤◌, ◌/◌, ◌^◌, true, ◌&&◌, eqb, ltb, List, [], ◌∷◌, ◌++◌, length, take, drop, refl, sym, ap, ◌∙◌, ⊎_elim, le_trans, w64, get_or, lit<, arith, pow_pos, pow_mono}
 use Rattle.std.specs.Int.{from_le_bytes}
 use Rattle.std.specs.List.{list_all}
 use Rattle.std.specs.Simd.{first_chunks}
@@ -56,12 +56,15 @@ pub fits_wide : (row size : ℕ) → row < 2 ^ 64 → 64 ≤ size → ltb row (2
 fits_wide row size h l = lt-ltb row (2 ^ size) (le_trans h (pow_mono l))
 
 -- one row more of those that stand in some bytes
-pub rows_more : (k : ℕ) (xs : List ℕ) → rows_in (suc k) xs ≡ rows_in k xs ++ (number8 xs (8 * k) ∷ [])
+more_rows : (k : ℕ) (xs : List ℕ) → rows_in (suc k) xs ≡ rows_in k xs ++ (number8 xs (8 * k) ∷ [])
 unfolding rows_in
-rows_more zero xs = refl
-rows_more (suc k) xs =
+more_rows zero xs = refl
+more_rows (suc k) xs =
     ap (λ ys. number8 xs 0 ∷ ys)
-    (rows_more k (drop 8 xs) ∙ ap (λ n. rows_in k (drop 8 xs) ++ (n ∷ [])) (number8-drop xs 8 (8 * k) ∙ ap (number8 xs) (omega arith)))
+    (more_rows k (drop 8 xs) ∙ ap (λ n. rows_in k (drop 8 xs) ++ (n ∷ [])) (number8-drop xs 8 (8 * k) ∙ ap (number8 xs) (omega arith)))
+
+pub rows_more : (k : ℕ) (xs : List ℕ) → rows_in (k + 1) xs ≡ rows_in k xs ++ (number8 xs (8 * k) ∷ [])
+rows_more k xs = ap (λ n. rows_in n xs) (omega arith) ∙ more_rows k xs
 
 pub no_rows : (xs : List ℕ) → rows_in 0 xs ≡ []
 unfolding rows_in

@@ -50,6 +50,7 @@ impl From<WriteFault> for RewriteFault {
 }
 
 // the rows of a table, of eight bytes each
+#[tactic(auto, using(crate::proofs::Chunks::no_rows, crate::proofs::Chunks::rows_more))]
 fn rows_of(bytes: &[u8]) -> ArrayVec<u64, 64>
     requires { length bytes.now ≤ 512 }
     ensures { result.items ≡ rows_in (length bytes.now / 8) bytes.now }
