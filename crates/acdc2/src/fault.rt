@@ -6,7 +6,7 @@ use refusal::Refusal;
 use std::alloc::AllocError;
 
 // It is refused, or memory is wanting.
-#[derive(Clone, Copy, PartialEq, Eq, Debug)]
+#[derive(Clone, Copy)]
 pub enum Fault {
     Refused(Refusal),
     Memory,

@@ -1,4 +1,4 @@
-// A second solver, for trials against the first: the published algorithm AC|DC-2, arc by arc, with a neighbouring variable and a time as the
+// A second solver, which serves the trials alone, for comparison with the first: the published algorithm AC|DC-2, arc by arc, with a neighbouring variable and a time as the
 // justification of each value that is out. It shares no code with the engine but the catalogs, the sets of bits and the names of the causes of refusal.
 //
 // Proved of it: that it is safe, that every call ends, which calls are refused and by which cause, that a refused call leaves it as it was, and that one
@@ -15,6 +15,7 @@ ghost use Rattle.std.specs.Prelude.{◌≡◌, Err, IfOk, OnErr, false, slice_se
 ghost use Rattle.std.specs.Result.{result_err};
 ghost use Rattle.refusal.specs.declared.Refusal.{Refusal};
 ghost use Rattle.acdc2.specs.Causes.{add_cause, refused_by, retract_cause};
+ghost use Rattle.acdc2.specs.State.{Opened, domain_of, why_of};
 ghost use Rattle.acdc2.specs.declared.fault.Fault.TheVariants.{Refused};
 
 use catalog::Catalog;
@@ -39,11 +40,10 @@ pub struct Solver<'a, C> {
 
 impl<'a, C: Catalog> Solver<'a, C> {
     // A solver with these variables, all their values shown and no constraint in. Only sizes from 1 to 64 and at most 32 variables are meant.
-    pub fn open(
-        heap: Global,
-        catalog: &'a C,
-        sizes: &[usize],
-    ) -> Result<Solver<'a, C>, AllocError> {
+    pub fn open(heap: Global, catalog: &'a C, sizes: &[usize]) -> Result<Solver<'a, C>, AllocError>
+        ensures catalog { IfOk result (λ s. s.catalog.now ≡ catalog.now) }
+        ensures opened { IfOk result (λ s. Opened sizes.now s.state) }
+    {
         let state = State::new(heap, sizes)?;
         Ok(Solver { catalog, state })
     }
@@ -82,12 +82,16 @@ impl<'a, C: Catalog> Solver<'a, C> {
     }
 
     // The domain of the variable `i`: bit x for the value x. Empty where there is no such variable.
-    pub fn domain(&self, i: usize) -> u64 {
+    pub fn domain(&self, i: usize) -> u64
+        ensures { result ≡ domain_of self.now.state i }
+    {
         self.state.domain(i)
     }
 
     // Why the value `x` of the variable `i` is out, where it is.
-    pub fn justification(&self, i: usize, x: usize) -> Option<Justification> {
+    pub fn justification(&self, i: usize, x: usize) -> Option<Justification>
+        ensures { result ≡ why_of self.now.state i x }
+    {
         self.state.why(i, x)
     }
 }

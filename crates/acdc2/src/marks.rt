@@ -1,5 +1,5 @@
 // Sets of constraints: those that are in, and those that wait for revision.
-ghost use Rattle.std.specs.Prelude.{◌≡◌, false, slice_index_or, slice_set};
+ghost use Rattle.std.specs.Prelude.{◌≡◌, false, replicate, slice_index_or, slice_set};
 
 // One mark for each constraint, and no list of those marked, since adding a constraint is not to fail for want of memory.
 // The trials' `Book` has the same of its own: it judges this solver, and a slip in a shared type would be the same on both sides.
@@ -9,7 +9,9 @@ pub(crate) struct Marks {
 }
 
 impl Marks {
-    pub(crate) fn none() -> Marks {
+    pub(crate) fn none() -> Marks
+        ensures { result.marks ≡ replicate 128 false }
+    {
         Marks {
             marks: [false; 128],
         }

@@ -1,11 +1,12 @@
 // What the solver keeps of its variables and constraints.
-ghost use Rattle.std.specs.Prelude.{◌≡◌, length};
+ghost use Rattle.std.specs.Prelude.{◌≡◌, IfOk, None, length, replicate};
+ghost use Rattle.acdc2.specs.State.{Opened, Whole, domain_of, why_of};
 
 use crate::marks::Marks;
 use std::alloc::{AllocError, Global};
 
 // Why a value is out: the first neighbouring variable in which it lost all supports, and when.
-#[derive(Clone, Copy, PartialEq, Eq, Debug)]
+#[derive(Clone, Copy)]
 pub struct Justification {
     pub neighbour: usize,
     pub time: u64,
@@ -21,7 +22,7 @@ struct Variable {
 // The variables, the constraints that are in, and the time. A variable and a value of it are two numbers throughout, as in the public questions: most
 // loops run over the values of one variable.
 #[derive(Drop)]
-pub struct State {
+pub(crate) struct State {
     variables: Vec<Variable>,
     pub(crate) present: Marks,
     clock: u64,
@@ -29,7 +30,9 @@ pub struct State {
 
 impl Variable {
     // A variable with as many values, all shown.
-    fn whole(size: usize) -> Variable {
+    fn whole(size: usize) -> Variable
+        ensures { Whole size result }
+    {
         Variable {
             domain: bits::below(size),
             why: [None; 64],
@@ -39,7 +42,9 @@ impl Variable {
 
 impl State {
     // Every value shown and no constraint in.
-    pub(crate) fn new(heap: Global, sizes: &[usize]) -> Result<State, AllocError> {
+    pub(crate) fn new(heap: Global, sizes: &[usize]) -> Result<State, AllocError>
+        ensures { IfOk result (λ s. Opened sizes.now s) }
+    {
         Ok(State {
             variables: sizes
                 .iter()
@@ -58,12 +63,16 @@ impl State {
     }
 
     // The values of `u` that are shown.
-    pub(crate) fn domain(&self, u: usize) -> u64 {
+    pub(crate) fn domain(&self, u: usize) -> u64
+        ensures { result ≡ domain_of self.now u }
+    {
         self.variables.get(u).map_or(0, |variable| variable.domain)
     }
 
     // Why the value `d` of `u` is out, if it is.
-    pub(crate) fn why(&self, u: usize, d: usize) -> Option<Justification> {
+    pub(crate) fn why(&self, u: usize, d: usize) -> Option<Justification>
+        ensures { result ≡ why_of self.now u d }
+    {
         *self.variables.get(u)?.why.get(d)?
     }
 

@@ -1,21 +1,21 @@
-// Numbers and catalogs that look like chance, the same for the same seed.
+// Numbers, catalogs and numberings that look like chance, the same for the same seed. They serve the trials alone.
 #![tactic(auto)]
 
 ghost use Rattle.std.specs.Prelude.{◌*◌, ◌<◌, ◌≤◌, ◌%◌, ◌^◌, ◌≡◌, max};
 ghost use Rattle.random.specs.Xorshift.{FACTOR, stirred};
 
 pub mod density;
-pub mod drawn;
-pub mod ends;
+mod drawn;
+mod ends;
 pub mod made;
-pub mod relation;
-pub mod sum;
-pub mod table;
+mod relation;
+mod sum;
+mod table;
 
 // The generator xorshift64*.
 #[derive(Clone, Copy)]
 pub struct Random {
-    pub state: u64,
+    state: u64,
 }
 
 impl Random {

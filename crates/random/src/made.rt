@@ -1,5 +1,6 @@
 // Catalogs and numberings drawn from a generator. The generator and the span stay two parameters, since the three public functions take them so.
-ghost use Rattle.std.specs.Prelude.{length, ◌≡◌, ◌≤◌};
+ghost use Rattle.std.specs.Prelude.{length, min, ◌<◌, ◌≡◌, ◌≤◌, ℕ};
+ghost use Rattle.catalog.specs.Numbered.{IsNumbering, entry};
 ghost use Rattle.random.specs.Constraints.{LieBelow};
 
 use crate::Random;
@@ -93,7 +94,10 @@ pub fn sums(random: &mut Random, count: usize, span: usize, size: usize) -> Sums
 }
 
 // The numbers below `span` shuffled; the others keep their places. The turn's number `e` is one of the two places, and the bound of the other.
-pub fn numbering(random: &mut Random, span: usize) -> Numbering {
+pub fn numbering(random: &mut Random, span: usize) -> Numbering
+    ensures numbering { IsNumbering result.to }
+    ensures rest { (e : ℕ) → min span 32 ≤ e → e < 32 → entry result.to e ≡ e }
+{
     let mut list: [usize; 32] = array::from_fn(|e| e);
     for e in 1..span.min(32) {
         list.swap(e, random.below(e));

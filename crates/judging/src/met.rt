@@ -17,10 +17,13 @@ impl Met {
         }
     }
 
-    // Notes the cause, where an answer is due to be a refusal.
-    pub fn note(&mut self, due: Result<(), Refusal>) {
-        if let Err(cause) = due {
-            self.numbers = bits::with(self.numbers, cause.number() as usize);
+    // With the cause, where an answer is due to be a refusal.
+    pub fn with(self, due: Option<Refusal>) -> Met {
+        match due {
+            Some(cause) => Met {
+                numbers: bits::with(self.numbers, cause.number() as usize),
+            },
+            None => self,
         }
     }
 }

@@ -2,8 +2,6 @@
 // the catalogs, the sets of bits and the names of the causes of refusal.
 use crate::clock::Clock;
 use catalog::Catalog;
-use network::Lent;
-use network_law::Change;
 use refusal::Refusal;
 use std::alloc::{AllocError, Global};
 use std::ops::Range;
@@ -16,7 +14,7 @@ pub struct Value {
 }
 
 // A call: the constraint that is to be added, or retracted. Not `sheet_moves::Move`, whose index is two bytes of a sheet: a trial has no sheet, and a
-// constraint is any `usize`, as the solvers take it. Nor `network::Call`, which is a question or an opening too.
+// constraint is any `usize`, as the solvers take it. Nor `network::Call`, which is a question or an opening too, and belongs to what is judged.
 #[derive(Clone, Copy)]
 pub enum Call {
     Add(usize),
@@ -103,9 +101,10 @@ impl Book {
         }
     }
 
-    // Do the buffers and the clock allow a call that the rest allows, or why not? Where the book does not know whether the clock is spent, it is as is `said`.
-    pub fn may_now(&self, lent: Lent, said: bool) -> Result<(), Refusal> {
-        if lent.waiting < 128 || lent.returning < 2048 {
+    // Do buffers of so many entries and the clock allow a call that the rest allows, or why not? Where the book does not know whether the clock is spent, it
+    // is as is `said`.
+    pub fn may_now(&self, waiting: usize, returning: usize, said: bool) -> Result<(), Refusal> {
+        if waiting < 128 || returning < 2048 {
             Err(Refusal::ShortBuffer)
         } else if self.clock.spent().unwrap_or(said) {
             Err(Refusal::ClockSpent)
@@ -114,29 +113,29 @@ impl Book {
         }
     }
 
-    // May the domain of a variable be asked, and whether its value is shown, and why it is out, or why not?
-    pub fn may_ask(&self, value: Value) -> [Result<(), Refusal>; 3] {
+    // Why the domain of a variable may not be asked, nor whether its value is shown, nor why it is out.
+    pub fn unasked(&self, value: Value) -> [Option<Refusal>; 3] {
         let Value { variable, value } = value;
-        let missing = Err(Refusal::NoSuchValue);
+        let missing = Some(Refusal::NoSuchValue);
         let domain = if variable < self.sizes.len() {
-            Ok(())
+            None
         } else {
             missing
         };
         let of_value = if value < self.size(variable) {
-            Ok(())
+            None
         } else {
             missing
         };
         [domain, of_value, of_value]
     }
 
-    // Notes a call that is accepted, and what it changed.
-    pub fn note(&mut self, call: Call, change: Change) {
+    // Notes a call that is accepted, and how many values it changed.
+    pub fn note(&mut self, call: Call, values: u32) {
         match call {
             Call::Add(p) => {
                 self.set_in(p, true);
-                self.clock = self.clock.after_add(change.values);
+                self.clock = self.clock.after_add(values);
             }
             Call::Retract(p) => {
                 self.set_in(p, false);

@@ -4,7 +4,7 @@ ghost use Rattle.std.specs.Prelude.{◌≡◌, ◌≤◌};
 use catalog::Catalog;
 
 #[derive(Drop)]
-pub struct Borrowed<'a, C> {
+pub(crate) struct Borrowed<'a, C> {
     pub catalog: &'a C,
 }
 

@@ -1,11 +1,11 @@
 // What the second solver tells.
-use crate::book::{Book, Call, Value};
-use crate::judge::Judge;
-use crate::told::{Account, Told};
 use acdc2::Solver;
 use acdc2::fault::Fault;
 use acdc2::state::Justification;
 use catalog::Catalog;
+use judging::book::{Book, Call, Value};
+use judging::judge::Judge;
+use judging::told::{Account, Told};
 use std::alloc::{AllocError, Global};
 
 // The second solver, and the catalog by which its justifications are completed.
@@ -45,11 +45,16 @@ impl<'a, C: Catalog> Second<'a, C> {
         }
     }
 
+    // The domain of a variable; nothing past the last one.
+    pub fn domain(&self, variable: usize) -> u64 {
+        self.solver.domain(variable)
+    }
+
     // The domains and times, with no constraint in any account. A variable is its number, by which the solver is asked.
     fn times(&self, heap: Global, book: &Book) -> Result<Told, AllocError> {
         let mut told = Told::new(heap);
         for variable in book.variables() {
-            told.add_domain(self.solver.domain(variable))?;
+            told.add_domain(self.domain(variable))?;
         }
         for value in &book.values {
             if let Some(why) = self.solver.justification(value.variable, value.value) {

@@ -3,7 +3,7 @@ use crate::book::Value;
 use std::alloc::{AllocError, Global};
 
 // Why a value is out: a constraint, where one is known, and a time.
-#[derive(Clone, Copy, PartialEq, Eq, Debug)]
+#[derive(Clone, Copy, PartialEq, Eq)]
 pub struct Account {
     pub constraint: Option<usize>,
     pub time: u64,

@@ -1,10 +1,10 @@
 // What the network tells.
-use crate::book::{Book, Call, Value};
 use crate::borrowed::Borrowed;
-use crate::told::{Account, Told};
-use crate::trouble::Trouble;
 use catalog::Catalog;
 use domains::Returning;
+use judging::book::{Book, Call, Value};
+use judging::told::{Account, Told};
+use judging::trouble::Trouble;
 use network::{Lent, Network};
 use network_law::{Answer, Change};
 use refusal::Refusal;
@@ -64,14 +64,19 @@ impl<'a, C: Catalog> First<'a, C> {
         }
     }
 
-    // Are the questions for the domain of a variable, whether its value is shown and why it is out answered, or why not?
-    pub fn asks(&self, value: Value) -> [Result<(), Refusal>; 3] {
+    // Why the questions for the domain of a variable, whether its value is shown and why it is out are refused.
+    pub fn unasked(&self, value: Value) -> [Option<Refusal>; 3] {
         let Value { variable, value } = value;
         [
-            self.network.domain(variable).map(|_| ()),
-            self.network.is_shown(variable, value).map(|_| ()),
-            self.network.justification(variable, value).map(|_| ()),
+            self.network.domain(variable).err(),
+            self.network.is_shown(variable, value).err(),
+            self.network.justification(variable, value).err(),
         ]
+    }
+
+    // The domain of a variable; nothing past the last one.
+    pub fn domain(&self, variable: usize) -> u64 {
+        self.network.domain(variable).unwrap_or(0)
     }
 
     pub fn wiped_out(&self) -> Option<usize> {

@@ -1,16 +1,16 @@
 // One list of calls: after each of them every party is to tell the same.
-use crate::book::{Book, Call, may_open};
 use crate::draws::Draws;
-use crate::expected;
-use crate::first::First;
-use crate::judge::Judge;
-use crate::met::Met;
-use crate::second::Second;
-use crate::told::Told;
-use crate::trouble::Trouble;
-use acdc2::fault::Fault;
 use catalog::Catalog;
+use judging::book::{Book, Call, may_open};
+use judging::expected;
+use judging::judge::Judge;
+use judging::met::Met;
+use judging::told::Told;
+use judging::trouble::Trouble;
 use network_law::Change;
+use parties::checks::{check_answer, check_done, check_unasked};
+use parties::first::First;
+use parties::second::Second;
 use refusal::Refusal;
 use std::alloc::Global;
 use wiped::wiped_out;
@@ -23,30 +23,6 @@ struct Parties<'a, C> {
     domains: Vec<u64>,
     told: Told,
     second: Second<'a, C>,
-}
-
-// Is the network's answer the one that is due: refused by the cause that the book gives, or with the number of values that went or came back, and the
-// wiped-out variable?
-fn check_answer(
-    answer: Result<Change, Refusal>,
-    due: Result<Change, Refusal>,
-) -> Result<(), Trouble> {
-    match (answer, due) {
-        (Ok(change), Ok(other)) if change.values != other.values => Err(Trouble::Count),
-        (Ok(change), Ok(other)) if change.wiped != other.wiped => Err(Trouble::WipedOut),
-        (Ok(_), Ok(_)) => Ok(()),
-        (Err(cause), Err(other)) if cause == other => Ok(()),
-        _ => Err(Trouble::Cause),
-    }
-}
-
-// Did the second solver do what is due: accept the call, or refuse it by the cause that the book gives?
-fn check_done(done: Result<(), Fault>, due: Result<(), Refusal>) -> Result<(), Trouble> {
-    match done {
-        Err(Fault::Memory) => Err(Trouble::Memory),
-        _ if done == due.map_err(Fault::Refused) => Ok(()),
-        _ => Err(Trouble::SecondCause),
-    }
 }
 
 // The justifications that do not rest on what is retracted are to be kept: all of them where nothing is.
@@ -160,21 +136,23 @@ impl<'a, C: Catalog> Trial<'a, C> {
         let lent = self.draws.lent();
         let answer = self.first.make(call, lent)?;
         let of_all = parties.book.may(self.catalog, call);
-        let of_lent = parties
-            .book
-            .may_now(lent, answer == Err(Refusal::ClockSpent));
+        let of_lent = parties.book.may_now(
+            lent.waiting,
+            lent.returning,
+            answer == Err(Refusal::ClockSpent),
+        );
         if of_all.is_err() || of_lent.is_ok() {
-            check_done(parties.second.make(heap, call), of_all)?;
+            check_done(parties.second.make(heap, call), of_all.err())?;
         }
         let due = of_all.and(of_lent);
-        self.met.note(due);
+        self.met = self.met.with(due.err());
         let retracted = match call {
             Call::Retract(p) if due.is_ok() => Some(p),
             _ => None,
         };
         self.replace_told(parties, retracted)?;
         if let Ok(change) = answer {
-            parties.book.note(call, change);
+            parties.book.note(call, change.values);
         }
         let domains = expected::domains(heap, self.catalog, &parties.book)?;
         let change = Change {
@@ -191,7 +169,7 @@ impl<'a, C: Catalog> Trial<'a, C> {
         let sizes = self.draws.bad_sizes()?;
         let time = self.draws.time();
         let due = may_open(&sizes);
-        self.met.note(due);
+        self.met = self.met.with(due.err());
         if due.is_ok() || self.first.open(&sizes, time) != due {
             return Err(Trouble::OtherCause);
         }
@@ -202,15 +180,9 @@ impl<'a, C: Catalog> Trial<'a, C> {
     // Asks about a value, which may not be there.
     fn ask(&mut self, book: &Book) -> Result<(), Trouble> {
         let value = self.draws.value(book);
-        let due = book.may_ask(value);
-        for answer in due {
-            self.met.note(answer);
-        }
-        if self.first.asks(value) == due {
-            Ok(())
-        } else {
-            Err(Trouble::OtherCause)
-        }
+        let [domain, shown, why] = book.unasked(value);
+        self.met = self.met.with(domain).with(shown).with(why);
+        check_unasked(self.first.unasked(value), [domain, shown, why])
     }
 
     // Opens the network and makes calls, with a question after each, and before one of them an opening that is refused.
