@@ -1,16 +1,16 @@
-// Numbers, catalogs and numberings that look like chance, the same for the same seed. They serve the trials alone.
+// Numbers, catalogs and numberings that look like chance, the same for the same seed. They serve trials and cases alone.
 #![tactic(auto)]
 
 ghost use Rattle.std.specs.Prelude.{◌*◌, ◌<◌, ◌≤◌, ◌%◌, ◌^◌, ◌≡◌, max};
 ghost use Rattle.random.specs.Xorshift.{FACTOR, stirred};
 
 pub mod density;
-mod drawn;
-mod ends;
+pub mod drawn;
+pub mod ends;
 pub mod made;
-mod relation;
+pub mod relation;
 mod sum;
-mod table;
+pub mod table;
 
 // The generator xorshift64*.
 #[derive(Clone, Copy)]
