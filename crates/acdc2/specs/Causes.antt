@@ -1,9 +1,9 @@
 -- Why a call is refused.
 use Rattle.std.specs.Prelude.{ℕ, Bool, cond, false, length, Some, None, Option, Err, Ok, Result, nat_lt, slice_index_or}
 use Rattle.catalog.specs.Meaning.{Meaning}
-use Rattle.refusal.specs.Causes.{constraint_refusal, first}
-use Rattle.refusal.specs.declared.Refusal.{Refusal}
-use Rattle.refusal.specs.declared.Refusal.TheVariants.{AlreadyIn, NoSuchConstraint, NotIn}
+use Rattle.catalog.specs.Causes.{constraint_refusal, first}
+use Rattle.catalog.specs.declared.refusal.Refusal.{Refusal}
+use Rattle.catalog.specs.declared.refusal.Refusal.TheVariants.{AlreadyIn, NoSuchConstraint, NotIn}
 use Rattle.acdc2.specs.declared.fault.Fault.{Fault}
 use Rattle.acdc2.specs.declared.fault.Fault.TheVariants.{Refused, Memory}
 use Rattle.acdc2.specs.declared.state.State.{State}

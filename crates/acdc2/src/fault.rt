@@ -2,7 +2,7 @@
 ghost use Rattle.std.specs.Prelude.{◌≡◌};
 ghost use Rattle.acdc2.specs.declared.fault.Fault.TheVariants.{Refused, Memory};
 
-use refusal::Refusal;
+use catalog::refusal::Refusal;
 use std::alloc::AllocError;
 
 // It is refused, or memory is wanting.

@@ -13,7 +13,7 @@
 
 ghost use Rattle.std.specs.Prelude.{◌≡◌, Err, IfOk, OnErr, false, slice_set, true};
 ghost use Rattle.std.specs.Result.{result_err};
-ghost use Rattle.refusal.specs.declared.Refusal.{Refusal};
+ghost use Rattle.catalog.specs.declared.refusal.Refusal.{Refusal};
 ghost use Rattle.acdc2.specs.Causes.{add_cause, refused_by, retract_cause};
 ghost use Rattle.acdc2.specs.State.{Opened, domain_of, why_of};
 ghost use Rattle.acdc2.specs.declared.fault.Fault.TheVariants.{Refused};
@@ -21,7 +21,7 @@ ghost use Rattle.acdc2.specs.declared.fault.Fault.TheVariants.{Refused};
 use catalog::Catalog;
 use fault::Fault;
 use marks::Marks;
-use refusal::Refusal;
+use catalog::refusal::Refusal;
 use state::{Justification, State};
 use std::alloc::{AllocError, Global};
 
@@ -77,7 +77,7 @@ impl<'a, C: Catalog> Solver<'a, C> {
         if !self.state.present.has(p) {
             return Err(Fault::Refused(Refusal::NotIn));
         }
-        self.take_out(heap, p, ends)?;
+        self.remove(heap, p, ends)?;
         Ok(())
     }
 

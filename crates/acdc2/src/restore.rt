@@ -117,7 +117,7 @@ impl<C: Catalog> Solver<'_, C> {
     }
 
     // Takes out the constraint `p`, which is in, with these ends.
-    pub(crate) fn take_out(
+    pub(crate) fn remove(
         &mut self,
         heap: Global,
         p: usize,

@@ -2,3 +2,5 @@ pub mod Shrink
 pub mod Exists
 pub mod Unique
 pub mod Covering
+pub mod Reach
+pub mod Keeps

@@ -1,7 +1,7 @@
 // Calls, read from lines, and answers, in words.
 use crate::words::Group;
 use network::{Call, Lent};
-use network_law::Answer;
+use network::Answer;
 use std::fmt;
 
 // all that there is of the buffers

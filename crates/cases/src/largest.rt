@@ -2,7 +2,7 @@
 use crate::words::{Group, Line};
 use catalog::Catalog;
 use scratch::largest_domains;
-use wiped::wiped_out;
+use supports::wiped_out;
 
 // What the result list holds before the call: no case has these domains.
 const UNTOUCHED: u64 = 0x5555_5555_5555_5555;

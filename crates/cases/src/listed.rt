@@ -4,8 +4,8 @@ use crate::words::Line;
 use catalog::Catalog;
 use domains::Returning;
 use network::{Call, perform};
-use network_law::Answer;
-use refusal::Refusal;
+use network::Answer;
+use catalog::refusal::Refusal;
 use std::alloc::{AllocError, Global};
 use std::array;
 

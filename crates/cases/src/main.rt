@@ -7,7 +7,7 @@
 //
 //     network CATALOG, or scratch CATALOG, where the catalog is
 //         chain, ordered, crossed       a sample
-//         ladder N                      so many rungs
+//         ladder N                      so many count
 //         house                         the constraints of the house
 //         house numbered N..            these renumbered: 32 numbers, or none where each variable keeps its own
 //         chain-house numbered N..      the chain renumbered, then the house
@@ -100,7 +100,7 @@ fn on<C: Catalog + Drop>(rt: &HostRuntime, block: Block<'_, '_>, catalog: C) -> 
 fn on_tables(rt: &HostRuntime, block: Block<'_, '_>) -> anyhow::Result<()> {
     let count = tables::count(block.lines).min(block.lines.len());
     let (tables, lines) = block.lines.split_at(count);
-    let catalog = tables::pile(tables);
+    let catalog = tables::combined(tables);
     let block = Block {
         tables,
         lines,
@@ -114,7 +114,7 @@ fn on_plain(rt: &HostRuntime, block: Block<'_, '_>, name: &Group<'_>) -> anyhow:
         ("chain", []) => on(rt, block, Sample::Chain),
         ("ordered", []) => on(rt, block, Sample::Ordered),
         ("crossed", []) => on(rt, block, Sample::Crossed),
-        ("ladder", [rungs]) => on(rt, block, Ladder { rungs: *rungs }),
+        ("ladder", [count]) => on(rt, block, Ladder { count: *count }),
         ("house", []) => on(rt, block, HouseCatalog),
         ("tables", []) => on_tables(rt, block),
         _ => unreadable(rt, block),
@@ -133,8 +133,8 @@ fn on_numbered(
     };
     match (name.word, name.numbers.as_slice()) {
         ("house", []) => on(rt, block, house),
-        ("ladder-house", [rungs]) => {
-            let first = Ladder { rungs: *rungs };
+        ("ladder-house", [count]) => {
+            let first = Ladder { count: *count };
             let second = house;
             on(rt, block, Joined { first, second })
         }

@@ -69,7 +69,7 @@ pub fn count(lines: &[Line<'_>]) -> usize {
 }
 
 // The tables that the lines are, up to 48.
-pub fn pile(lines: &[Line<'_>]) -> Joined<Tables, Tables> {
+pub fn combined(lines: &[Line<'_>]) -> Joined<Tables, Tables> {
     let (first, second) = lines.split_at(lines.len().min(24));
     Joined {
         first: tables(first),

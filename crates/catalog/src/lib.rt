@@ -1,12 +1,15 @@
-// Catalogs of constraints: what a catalog is, two joined into one, and one with its variables renumbered.
+// Catalogs of constraints: what a catalog is, two joined into one, and one with its variables renumbered; and why calls that name
+// variables, values and constraints are refused.
 #![tactic(auto)]
 
 ghost use Rattle.std.specs.Prelude.{◌≡◌, ◌≤◌};
 ghost use Rattle.catalog.specs.Constraints.{arcs_of};
 ghost use Rattle.catalog.specs.Meaning.{Meaning, Lawful, GoodEnds, ends_of, allowed};
 
+pub mod checks;
 pub mod joined;
 pub mod numbering;
+pub mod refusal;
 pub mod renumbered;
 
 // At most 128 constraints, each between two different variables below 32. Each answer is the meaning's, and no question alters

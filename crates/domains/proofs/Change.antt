@@ -4,10 +4,10 @@ use Rattle.std.proofs.lemmas.List.{get_or-set_same, get_or-set_other}
 use Rattle.std.proofs.lemmas.Bool.{cases_eq, cases_lt, both_ways, and_parts, and_from, eqb-false}
 use Rattle.arcs.specs.Family.{Support, Consistent, Inside}
 use Rattle.bits.specs.Bits.{has_bit}
-use Rattle.justify.specs.Standing.{Out, Timed, Rests}
-use Rattle.justify.specs.Changes.{Stays, MoreReasons, ExceptReasons, Dated, Same, Released}
-use Rattle.justify.specs.Theorems.{ReleaseKept}
-use Rattle.justify.proofs.Keeps.{dated_trans, more_keeps, release_keeps, same_trans}
+use Rattle.arcs.specs.Standing.{Out, Timed, Rests}
+use Rattle.arcs.specs.Changes.{Stays, MoreReasons, ExceptReasons, Dated, Same, Released}
+use Rattle.arcs.specs.Justifying.{ReleaseKept}
+use Rattle.arcs.proofs.Keeps.{dated_trans, more_keeps, release_keeps, same_trans}
 use Rattle.domains.specs.declared.Constraints.{Constraints}
 use Rattle.domains.specs.declared.Domains.{Domains}
 use Rattle.domains.specs.Model.{within, is_present, left_of, right_of, pair_at, arcs_of, shown, standing, total, reason_is}

@@ -9,8 +9,8 @@ use lib.Bits.{bit_and}
 use Rattle.std.proofs.lemmas.Bool.{cases_eq}
 use Rattle.arcs.specs.Family.{Family, Support, Largest}
 use Rattle.bits.proofs.Coded.{has_low}
-use Rattle.justify.specs.Standing.{Standing, Accounts, Timed}
-use Rattle.justify.proofs.Reach.{justified_largest}
+use Rattle.arcs.specs.Standing.{Standing, Accounts, Timed}
+use Rattle.arcs.proofs.Reach.{justified_largest}
 use Rattle.domains.specs.declared.Constraints.{Constraints}
 use Rattle.domains.specs.declared.Domains.{Domains}
 use Rattle.domains.specs.Model.{within, row, arcs_of, shown, standing}

@@ -1,8 +1,8 @@
 -- Putting back what rests on a constraint, value by value.
 use Rattle.std.proofs.Common.{◌≡◌, ℕ, ◌<◌, true, false, ◌⊎◌, List, [], ◌∷◌, ◌++◌, sym, refl, ap, ◌∙◌, subst, inl, inr, ⊎_elim}
 use Rattle.std.proofs.lemmas.Bool.{cases_eq, cases_Bool, both_ways, eqb-true}
-use Rattle.justify.specs.Standing.{Out, Rests, names, through}
-use Rattle.justify.specs.Changes.{PutBack, Released}
+use Rattle.arcs.specs.Standing.{Out, Rests, names, through}
+use Rattle.arcs.specs.Changes.{PutBack, Released}
 use Rattle.domains.specs.declared.Constraints.{Constraints}
 use Rattle.domains.specs.declared.Domains.{Domains}
 use Rattle.domains.specs.declared.Justification.{Justification}

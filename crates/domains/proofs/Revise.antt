@@ -6,10 +6,10 @@ use Rattle.arcs.specs.Family.{Support}
 use Rattle.bits.specs.Bits.{has_bit}
 use Rattle.bits.proofs.Bitwise.{share, share_positive}
 use Rattle.bits.proofs.Coded.{has_low}
-use Rattle.justify.specs.Standing.{Timed}
-use Rattle.justify.specs.Changes.{PutOut}
-use Rattle.justify.specs.Theorems.{OutKept}
-use Rattle.justify.proofs.Keeps.{same_trans, dated_trans, dated_put_out, put_out_keeps}
+use Rattle.arcs.specs.Standing.{Timed}
+use Rattle.arcs.specs.Changes.{PutOut}
+use Rattle.arcs.specs.Justifying.{OutKept}
+use Rattle.arcs.proofs.Keeps.{same_trans, dated_trans, dated_put_out, put_out_keeps}
 use Rattle.domains.specs.declared.Arc.{Arc}
 use Rattle.domains.specs.declared.Constraints.{Constraints}
 use Rattle.domains.specs.declared.Domains.{Domains}

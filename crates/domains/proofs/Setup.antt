@@ -5,9 +5,9 @@ use Rattle.std.proofs.lemmas.Bool.{cases_lt, cases_eq, cases_Bool, both_ways, lt
 use Rattle.arcs.specs.Family.{Support, Inside, within_sizes}
 use Rattle.bits.specs.Bits.{has_bit}
 use Rattle.bits.proofs.Bitwise.{bit_of_zero}
-use Rattle.justify.specs.Standing.{Out, Justified, Timed}
-use Rattle.justify.specs.Changes.{MoreReasons}
-use Rattle.justify.proofs.Keeps.{more_keeps}
+use Rattle.arcs.specs.Standing.{Out, Justified, Timed}
+use Rattle.arcs.specs.Changes.{MoreReasons}
+use Rattle.arcs.proofs.Keeps.{more_keeps}
 use Rattle.domains.specs.declared.Constraints.{Constraints}
 use Rattle.domains.specs.declared.Domains.{Domains}
 use Rattle.domains.specs.declared.Ends.{Ends}

@@ -3,7 +3,7 @@ use Rattle.std.specs.Prelude.{ℕ, ◌+◌, ◌*◌, Bool, false, cond, ◌&&◌
 use Rattle.arcs.specs.Arcs.{Arcs}
 use Rattle.arcs.specs.Family.{Family, within_sizes}
 use Rattle.bits.specs.Bits.{has_bit, domains_of}
-use Rattle.justify.specs.Standing.{Standing, Reasons}
+use Rattle.arcs.specs.Standing.{Standing, Reasons}
 use Rattle.domains.specs.declared.Constraints.{Constraints}
 use Rattle.domains.specs.declared.Domains.{Domains}
 use Rattle.domains.specs.declared.Ends.{Ends}

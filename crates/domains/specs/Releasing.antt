@@ -1,6 +1,6 @@
 -- On the way of putting back what rests on a constraint.
 use Rattle.std.specs.Prelude.{◌≡◌, ℕ, ◌<◌, true, ◌⊎◌, List, [], ◌∷◌}
-use Rattle.justify.specs.Standing.{Out, Justified, Rests}
+use Rattle.arcs.specs.Standing.{Out, Justified, Rests}
 use Rattle.domains.specs.declared.Constraints.{Constraints}
 use Rattle.domains.specs.declared.Domains.{Domains}
 use Rattle.domains.specs.declared.Returning.{Returning}

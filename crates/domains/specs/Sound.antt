@@ -2,8 +2,8 @@
 use Rattle.std.specs.Prelude.{◌≡◌, ℕ, ◌+◌, ◌*◌, ◌<◌, ◌≤◌, Bool, true, false, ◌⊎◌, List, ◌≢◌, slice_index, slice_index_or}
 use Rattle.arcs.specs.Family.{Inside, Support}
 use Rattle.bits.specs.Bits.{has_bit}
-use Rattle.justify.specs.Standing.{Justified, Timed}
-use Rattle.justify.specs.Changes.{Dated, KeptOut}
+use Rattle.arcs.specs.Standing.{Justified, Timed}
+use Rattle.arcs.specs.Changes.{Dated, KeptOut}
 use Rattle.domains.specs.declared.Arc.{Arc}
 use Rattle.domains.specs.declared.Constraints.{Constraints}
 use Rattle.domains.specs.declared.Domains.{Domains}

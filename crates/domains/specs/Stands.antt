@@ -37,10 +37,10 @@ last_time = 4294965247
 abbrev pub spent : ℕ → Bool
 spent clock = nat_lt last_time clock
 
--- a lent room is as long as it was, and past its first n entries as it was
-pub record Past {T : Type 0} (n : ℕ) (room room' : List T) : Type 0 where
-  pub long : length room' ≡ length room
-  pub rest : drop n room' ≡ drop n room
+-- a lent buffer is as long as it was, and past its first n entries as it was
+pub record Past {T : Type 0} (n : ℕ) (buffer buffer' : List T) : Type 0 where
+  pub long : length buffer' ≡ length buffer
+  pub rest : drop n buffer' ≡ drop n buffer
 
 -- The constraint p, which is not in, has these ends and rows; all else is as it was.
 pub record Loaded (c c' : Constraints) (p left right : ℕ) (rows : List ℕ) : Type 0 where

@@ -3,7 +3,7 @@ use Rattle.std.proofs.Common.{◌≡◌, ℕ, ◌+◌, ◌<◌, ◌≤◌, true,
 use Rattle.std.proofs.lemmas.Bool.{ltb-true, lt-ltb, cases_lt, both_ways, eq-eqb, and_from}
 use Rattle.arcs.specs.Family.{Inside}
 use Rattle.bits.specs.Bits.{has_bit}
-use Rattle.justify.specs.Standing.{Out, Rests, names, through}
+use Rattle.arcs.specs.Standing.{Out, Rests, names, through}
 use Rattle.queue.specs.declared.fifo.Queue.{Queue}
 use Rattle.queue.specs.Waiting.{waits}
 use Rattle.domains.specs.declared.Arc.{Arc}
@@ -16,7 +16,7 @@ use Rattle.domains.specs.Sound.{Shape, Facing, Sound}
 use Rattle.domains.specs.Releasing.{Releasing}
 use Rattle.domains.proofs.Facing.{on_low, on_present, on_at_far, ends_of}
 use Rattle.domains.proofs.Release.{releasing_drop}
-use Rattle.engine.specs.Returns.{Roomy, Grew, AllRest, FreesAmong}
+use Rattle.engine.specs.Returns.{Spare, Grew, AllRest, FreesAmong}
 use Rattle.engine.proofs.Frees.{grew_trans}
 
 -- of the values whose reason lets the value y of j stand beside them, those with a reason below n are back
@@ -25,7 +25,7 @@ FollowedBelow c d d' j y n = (i x : ℕ) → Out (within c) (standing d) i x →
 
 -- on the way through the constraints at the variable of v
 pub record Beside (c : Constraints) (d d' : Domains) (q q' : Queue Returning) (v : Returning) (n : ℕ) : Type 0 where
-  pub roomy : Roomy c d' q'
+  pub spare : Spare c d' q'
   pub grew : Grew d d' q q'
   pub frees : (p : ℕ) (d₀ : Domains) → Releasing c p d₀ d (v ∷ waits q) → Releasing c p d₀ d' (v ∷ waits q') × FollowedBelow c d₀ d' v.variable v.value n
 
@@ -33,7 +33,7 @@ pub record Beside (c : Constraints) (d d' : Domains) (q q' : Queue Returning) (v
 pub beside_skip : (c : Constraints) (d d' : Domains) (q q' : Queue Returning) (v : Returning) (n : ℕ) → Shape c → (arcs_of c).on v.variable n ≡ false → Beside c d d' q q' v n → Beside c d d' q q' v (n + 1)
 beside_skip c d d' q q' v n shape off b =
     record {
-      roomy = b.roomy;
+      spare = b.spare;
       grew = b.grew;
       frees = λ p d₀ h.
           let k = b.frees p d₀ h in (
@@ -86,10 +86,10 @@ module _ (c : Constraints) (d d' d'' : Domains) (q q' q'' : Queue Returning) (v 
       (subst P (sym e) (fits_row x (inside_low a.far x o.inside) ∙ has))
       (subst Q (sym (subst F (sym e) far_back)) s)
 
-  pub beside_more : (among : ℕ) → among ≡ row c a.rows v.value → Roomy c d'' q'' → Grew d' d'' q' q'' → FreesAmong c d' d'' (waits q') (waits q'') a.far n among → ((x : ℕ) → within c a.far x ≡ true → has_bit among x ≡ true → (entry d''.why a.far x).constraint ≡ n → shown d'' a.far x ≡ true) → Beside c d d' q q' v n → Beside c d d'' q q'' v (n + 1)
-  beside_more among is_row roomy grew frees freed b =
+  pub beside_more : (among : ℕ) → among ≡ row c a.rows v.value → Spare c d'' q'' → Grew d' d'' q' q'' → FreesAmong c d' d'' (waits q') (waits q'') a.far n among → ((x : ℕ) → within c a.far x ≡ true → has_bit among x ≡ true → (entry d''.why a.far x).constraint ≡ n → shown d'' a.far x ≡ true) → Beside c d d' q q' v n → Beside c d d'' q q'' v (n + 1)
+  beside_more among is_row spare grew frees freed b =
       record {
-        roomy = roomy;
+        spare = spare;
         grew = grew_trans d d' d'' q q' q'' b.grew grew;
         frees = λ p d₀ h. (next p d₀ h, follow p d₀ h);
       }

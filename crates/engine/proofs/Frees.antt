@@ -3,8 +3,8 @@ use Rattle.std.proofs.Common.{◌≡◌, ℕ, ◌+◌, ◌*◌, ◌<◌, ◌≤�
 use Rattle.std.proofs.lemmas.List.{append_assoc}
 use Rattle.std.proofs.lemmas.Bool.{cases_Bool, both_ways, and_parts, not-true, eqb-true, eq-eqb, and_from, not_from_false}
 use Rattle.bits.specs.Bits.{has_bit}
-use Rattle.justify.specs.Standing.{Out, Rests}
-use Rattle.justify.specs.Changes.{PutBack}
+use Rattle.arcs.specs.Standing.{Out, Rests}
+use Rattle.arcs.specs.Changes.{PutBack}
 use Rattle.engine.proofs.Kept.{kept_trans}
 use Rattle.queue.specs.declared.fifo.Queue.{Queue}
 use Rattle.queue.specs.Waiting.{waits, Kept}
@@ -16,7 +16,7 @@ use Rattle.domains.specs.Model.{within, arcs_of, shown, standing, entry, total, 
 use Rattle.domains.specs.Releasing.{Low, Releasing}
 use Rattle.domains.proofs.Entries.{total_few}
 use Rattle.domains.proofs.Release.{low_push, back_grows, back_cases, was_out, releasing_free}
-use Rattle.engine.specs.Returns.{Roomy, Grew, FreesAmong}
+use Rattle.engine.specs.Returns.{Spare, Grew, FreesAmong}
 
 pub names_yes : (b : Bool) (m p : ℕ) → true ≡ (not b && eqb m p) → (b ≡ false) × (m ≡ p)
 names_yes b m p e =
@@ -38,8 +38,8 @@ pub bare_no : (b : Bool) (s : ℕ) → false ≡ (b && eqb s 0) → b ≡ true �
 bare_no b s e h z = both_ways (b && eqb s 0) (sym e) (and_from b (eqb s 0) h (eq-eqb s 0 z))
 
 -- there is room for one more, since it comes back
-pub some_room : (d d' : Domains) (n limit : ℕ) → limit ≡ 2048 → n ≤ total d.sets → total d'.sets ≡ total d.sets + 1 → n < limit
-some_room d d' n limit e few more =
+pub one_left : (d d' : Domains) (n limit : ℕ) → limit ≡ 2048 → n ≤ total d.sets → total d'.sets ≡ total d.sets + 1 → n < limit
+one_left d d' n limit e few more =
     let t : total d'.sets ≤ 64 * length d'.sets = total_few d'.sets d'.wide in
     omega (arith, t, d'.sets_long)
 
@@ -56,8 +56,8 @@ grew_trans d d' d'' q q' q'' a b =
 
 -- one value came back
 module _ (c : Constraints) (d d' : Domains) (q q' : Queue Returning) (i x t : ℕ) (put : PutBack (standing d) (standing d') i x) (why : d'.why ≡ d.why) (more : total d'.sets ≡ total d.sets + 1) (waiting : waits q' ≡ waits q ++ (record { variable = i; value = x; time = t } ∷ [])) (len : q'.len ≡ q.len + 1) (kept : Kept q q') where
-  pub roomy_free : i < 32 → x < 64 → within c i x ≡ true → Roomy c d q → Roomy c d' q'
-  roomy_free il xl inside r =
+  pub spare_free : i < 32 → x < 64 → within c i x ≡ true → Spare c d q → Spare c d' q'
+  spare_free il xl inside r =
       record {
         inside = λ j y h. ⊎_elim (λ o. r.inside j y o) (λ e. rw (← e.0, ← e.1) inside) (back_cases d d' i x put j y h);
         limit = kept.limit ∙ r.limit;
@@ -80,20 +80,20 @@ module _ (c : Constraints) (d d' : Domains) (q q' : Queue Returning) (i x t : �
 
 -- on the way through the values of a variable
 pub record Among (c : Constraints) (d d' : Domains) (q q' : Queue Returning) (i p among x : ℕ) : Type 0 where
-  pub roomy : Roomy c d' q'
+  pub spare : Spare c d' q'
   pub grew : Grew d d' q q'
   pub frees : FreesAmong c d d' (waits q) (waits q') i p among
   pub below : (k : ℕ) → k < x → has_bit among k ≡ true → (entry d'.why i k).constraint ≡ p → shown d' i k ≡ true
 
 pub among_skip : (c : Constraints) (d d' : Domains) (q q' : Queue Returning) (i p among x : ℕ) → (has_bit among x ≡ true → (entry d'.why i x).constraint ≡ p → shown d' i x ≡ true) → Among c d d' q q' i p among x → Among c d d' q q' i p among (x + 1)
 among_skip c d d' q q' i p among x here a =
-    record { roomy = a.roomy; grew = a.grew; frees = a.frees; below = below_more _ x a.below here }
+    record { spare = a.spare; grew = a.grew; frees = a.frees; below = below_more _ x a.below here }
 
 module _ (c : Constraints) (d d' d'' : Domains) (q q' q'' : Queue Returning) (i p among x t : ℕ) (put : PutBack (standing d') (standing d'') i x) (why : d''.why ≡ d'.why) (more : total d''.sets ≡ total d'.sets + 1) (waiting : waits q'' ≡ waits q' ++ (record { variable = i; value = x; time = t } ∷ [])) (len : q''.len ≡ q'.len + 1) (kept : Kept q' q'') where
   pub among_free : i < 32 → x < 64 → within c i x ≡ true → has_bit among x ≡ true → shown d' i x ≡ false → (entry d'.why i x).constraint ≡ p → d''.clock ≡ d'.clock → Among c d d' q q' i p among x → Among c d d'' q q'' i p among (x + 1)
   among_free il xl inside has gone names clock a =
       record {
-        roomy = roomy_free c d' d'' q' q'' i x t put why more waiting len kept il xl inside a.roomy;
+        spare = spare_free c d' d'' q' q'' i x t put why more waiting len kept il xl inside a.spare;
         grew = grew_trans d d' d'' q q' q'' a.grew (grew_free c d' d'' q' q'' i x t put why more waiting len kept clock);
         frees = λ r d₀ first rest rel.
             frees_free c d' d'' q' q'' i x t put why more waiting len kept r d₀ first inside gone (λ o e. rest x o (e ∙ names) has) (a.frees r d₀ first rest rel);

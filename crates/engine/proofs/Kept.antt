@@ -1,4 +1,4 @@
--- What a queue keeps of its room over one call after another.
+-- What a queue keeps of its buffer over one call after another.
 use Rattle.std.proofs.Common.{drop, sym, ap, ◌∙◌}
 use Rattle.queue.specs.declared.fifo.Queue.{Queue}
 use Rattle.queue.specs.Waiting.{Kept}
@@ -9,5 +9,5 @@ kept_trans q q' q'' a b =
       same = b.same ∙ a.same;
       limit = b.limit ∙ a.limit;
       long = b.long ∙ a.long;
-      rest = ap (λ n. drop n q''.room.now) (sym a.limit) ∙ b.rest ∙ ap (λ n. drop n q'.room.now) a.limit ∙ a.rest;
+      rest = ap (λ n. drop n q''.buffer.now) (sym a.limit) ∙ b.rest ∙ ap (λ n. drop n q'.buffer.now) a.limit ∙ a.rest;
     }

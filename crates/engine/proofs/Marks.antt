@@ -25,8 +25,8 @@ marked_few : (bs : List Bool) → marked bs ≤ length bs
 marked_few [] = omega arith
 marked_few (b ∷ bs) = omega (arith, marked_few bs, at_most_one b)
 
-pub marked_room : (bs : List Bool) (p : ℕ) → p < length bs → get_or bs p false ≡ false → marked bs < length bs
-marked_room bs p h e =
+pub marked_spare : (bs : List Bool) (p : ℕ) → p < length bs → get_or bs p false ≡ false → marked bs < length bs
+marked_spare bs p h e =
     let m : marked (set bs p true) + number (get_or bs p false) ≡ marked bs + 1 = marked-set bs p true h in
     let z : number (get_or bs p false) ≡ 0 = number_false (get_or bs p false) e in
     omega (arith, m, z, marked_few (set bs p true), length-set bs p true)
@@ -43,8 +43,8 @@ low_mark marks p e h =
 module _ (q q' : Queue ℕ) (marks : List Bool) (p : ℕ) (r : Bool) (low : p < 128) (queued : Queued q marks) where
   pub queued_push : get_or marks p false ≡ false → r ≡ ltb q.len q.limit → waits q' ≡ cond r (waits q ++ (p ∷ [])) (waits q) → q'.len ≡ cond r (q.len + 1) q.len → Kept q q' → Queued q' (set marks p true)
   queued_push un fits waiting len kept =
-      let room : q.len < q.limit = omega (arith, marked_room marks p (omega (arith, queued.long)) un, queued.long, queued.count, queued.limit) in
-      let t : r ≡ true = fits ∙ lt-ltb q.len q.limit room in
+      let buffer : q.len < q.limit = omega (arith, marked_spare marks p (omega (arith, queued.long)) un, queued.long, queued.count, queued.limit) in
+      let t : r ≡ true = fits ∙ lt-ltb q.len q.limit buffer in
       let w : waits q' ≡ waits q ++ (p ∷ []) = waiting ∙ cond-true r _ _ t in
       let l : q'.len ≡ q.len + 1 = len ∙ cond-true r _ _ t in
       let m : marked (set marks p true) + number (get_or marks p false) ≡ marked marks + 1 = marked-set marks p true (omega (arith, queued.long)) in

@@ -15,8 +15,8 @@ unmarked_at : (n p : ℕ) → get_or (replicate n false) p false ≡ false
 unmarked_at n p =
     ⊎_elim (λ l. get_or-replicate n p false false l) (λ g. get_or_past (replicate n false) p false (omega (arith, length-replicate n false))) (cases_lt p n)
 
-pub queued_start : (q : Queue ℕ) (marks : List Bool) (room : ℕ) → marks ≡ replicate 128 false → waits q ≡ [] → q.len ≡ 0 → q.limit ≡ min 128 room → 128 ≤ room → Queued q marks
-queued_start q marks room m w l limit h =
+pub queued_start : (q : Queue ℕ) (marks : List Bool) (buffer : ℕ) → marks ≡ replicate 128 false → waits q ≡ [] → q.len ≡ 0 → q.limit ≡ min 128 buffer → 128 ≤ buffer → Queued q marks
+queued_start q marks buffer m w l limit h =
     record {
       limit = omega arith;
       long = ap length m ∙ length-replicate 128 false;
@@ -24,11 +24,11 @@ queued_start q marks room m w l limit h =
       count = ap marked m ∙ none_marked 128 ∙ sym l;
     }
 
--- what a queue leaves of the room that it stood on
-pub past_kept : {T : Type 0} (q q' : Queue T) (room last : List T) (n : ℕ) → q.room.now ≡ room → Kept q q' → q.limit ≡ min n (length room) → n ≤ length room → last ≡ q'.room.now → Past n room last
-past_kept q q' room last n filled kept limit h e =
+-- what a queue leaves of the buffer that it stood on
+pub past_kept : {T : Type 0} (q q' : Queue T) (buffer last : List T) (n : ℕ) → q.buffer.now ≡ buffer → Kept q q' → q.limit ≡ min n (length buffer) → n ≤ length buffer → last ≡ q'.buffer.now → Past n buffer last
+past_kept q q' buffer last n filled kept limit h e =
     let l : q.limit ≡ n = omega arith in
     record {
       long = ap length e ∙ kept.long ∙ ap length filled;
-      rest = ap (drop n) e ∙ ap (λ k. drop k q'.room.now) (sym l) ∙ kept.rest ∙ ap (λ k. drop k q.room.now) l ∙ ap (drop n) filled;
+      rest = ap (drop n) e ∙ ap (λ k. drop k q'.buffer.now) (sym l) ∙ kept.rest ∙ ap (λ k. drop k q.buffer.now) l ∙ ap (drop n) filled;
     }

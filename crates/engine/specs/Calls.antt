@@ -1,8 +1,8 @@
 -- What a call on an engine does.
 use Rattle.std.specs.Prelude.{◌≡◌, ℕ, ◌+◌, ◌<◌, ◌≤◌, min, Bool, true, false, cond, not, ◌&&◌, ◌||◌, List, Some, None, Option, ◌==◌, nat_lt, slice_index}
 use Rattle.arcs.specs.Family.{Inside, Largest}
-use Rattle.justify.specs.Standing.{Out, Justified, Timed, Rests}
-use Rattle.justify.specs.Changes.{Dated, Same}
+use Rattle.arcs.specs.Standing.{Out, Justified, Timed, Rests}
+use Rattle.arcs.specs.Changes.{Dated, Same}
 use Rattle.engine.specs.declared.fault.LoadFault.{LoadFault}
 use Rattle.engine.specs.declared.fault.LoadFault.TheVariants.{NoSuchConstraint, AlreadyIn, EndOutside, SameEnds}
 use Rattle.domains.specs.declared.Constraints.{Constraints}
@@ -15,11 +15,11 @@ use Rattle.domains.specs.Stands.{spent, with_present}
 
 -- can p go in: it is not in, has two different ends, and there is room and time
 abbrev pub can_add : Constraints → Domains → ℕ → ℕ → Bool
-can_add c d p room = nat_lt p 128 && (not (is_present c p) && (not (left_of c p == right_of c p) && (not (nat_lt room 128) && not (spent d.clock))))
+can_add c d p waiting = nat_lt p 128 && (not (is_present c p) && (not (left_of c p == right_of c p) && (not (nat_lt waiting 128) && not (spent d.clock))))
 
 -- can p go out: it is in, and there is room and time
 abbrev pub can_retract : Constraints → Domains → ℕ → ℕ → ℕ → Bool
-can_retract c d p room returning = nat_lt p 128 && (is_present c p && (not (nat_lt room 128) && (not (nat_lt returning 2048) && not (spent d.clock))))
+can_retract c d p waiting returning = nat_lt p 128 && (is_present c p && (not (nat_lt waiting 128) && (not (nat_lt returning 2048) && not (spent d.clock))))
 
 -- the shown values are the largest under the constraints, all others are justified, and the times are apart and below the clock
 pub record Right (c : Constraints) (d : Domains) : Type 0 where

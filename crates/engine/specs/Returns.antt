@@ -1,7 +1,7 @@
 -- Values that come back through their queue.
 use Rattle.std.specs.Prelude.{◌≡◌, ℕ, ◌+◌, ◌≤◌, true, List, ◌++◌}
 use Rattle.arcs.specs.Family.{Inside}
-use Rattle.justify.specs.Standing.{Out, Rests}
+use Rattle.arcs.specs.Standing.{Out, Rests}
 use Rattle.queue.specs.declared.fifo.Queue.{Queue}
 use Rattle.queue.specs.Waiting.{waits, Kept}
 use Rattle.bits.specs.Bits.{has_bit}
@@ -12,7 +12,7 @@ use Rattle.domains.specs.Model.{within, arcs_of, shown, standing, total, reason_
 use Rattle.domains.specs.Releasing.{Low, Releasing}
 
 -- there is room for every value that may yet come back
-pub record Roomy (c : Constraints) (d : Domains) (q : Queue Returning) : Type 0 where
+pub record Spare (c : Constraints) (d : Domains) (q : Queue Returning) : Type 0 where
   pub inside : Inside (within c) (shown d)
   pub limit : q.limit ≡ 2048
   pub few : q.len ≤ total d.sets

@@ -1,6 +1,6 @@
 // Why a constraint is not loaded.
 
-// The first cause that holds. Not `refusal::Refusal`, whose causes are a network's: it has none for two ends that are the same, nor is an end outside here
+// The first cause that holds. Not `catalog::refusal::Refusal`, whose causes are a network's: it has none for two ends that are the same, nor is an end outside here
 // one past the variables.
 #[derive(Clone, Copy, PartialEq, Eq, Debug)]
 pub enum LoadFault {

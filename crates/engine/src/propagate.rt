@@ -1,6 +1,6 @@
 // The queue of constraints is emptied; afterwards each constraint that is in is consistent.
 // The queue and its marks are two parameters: a struct of both was tried, with the queue in it by value and by `&mut`, and the proof did not
-// close, since it is not known then what the lender of the room gets back (the queue itself holds a `&mut [T]`). Constraints and domains are two as well,
+// close, since it is not known then what the lender of the buffer gets back (the queue itself holds a `&mut [T]`). Constraints and domains are two as well,
 // since the first are only read: of one struct each function would have to promise that the constraints stay. `Sound` and the time that is left are asked of
 // both each time: within a call they hold in part only, and a type for each stage would be no plainer. `Shape` is asked beside it: a type of the engine's own
 // around the constraints would be one step more in every public clause that speaks of them. That a constraint lies below 128 is asked of its number: a type

@@ -1,13 +1,13 @@
 // What rests on a constraint comes back. Constraints, domains and queue are three parameters, as propagate.rt says of its own.
 ghost use Rattle.std.specs.Prelude.{◌≡◌, ℕ, ◌+◌, ◌<◌, ◌≤◌, true, false, not, ◌&&◌, [], ◌∷◌, ◌++◌, ◌==◌};
 ghost use Rattle.arcs.specs.Family.{Inside};
-ghost use Rattle.justify.specs.Changes.{PutBack, Released};
+ghost use Rattle.arcs.specs.Changes.{PutBack, Released};
 ghost use Rattle.queue.specs.Waiting.{Kept, waits};
 ghost use Rattle.bits.specs.Bits.{has_bit};
 ghost use Rattle.domains.specs.Model.{arcs_of, entry, is_present, reason_is, row, shown, standing, total, within};
 ghost use Rattle.domains.specs.Releasing.{Followed, Low, Releasing};
 ghost use Rattle.domains.specs.Sound.{Facing, Shape, Sound};
-ghost use Rattle.engine.specs.Returns.{FreesAmong, Grew, Roomy};
+ghost use Rattle.engine.specs.Returns.{FreesAmong, Grew, Spare};
 
 use crate::revise::arc_at;
 use crate::value::Value;
@@ -58,8 +58,8 @@ pub(crate) fn free_among(
 )
     requires low { variable < 32 }
     requires shape { Shape c.now }
-    requires roomy { Roomy c.now d.old q.old }
-    ensures roomy { Roomy c.now d.new q.new }
+    requires spare { Spare c.now d.old q.old }
+    ensures spare { Spare c.now d.new q.new }
     ensures grew { Grew d.old d.new q.old q.new }
     ensures frees { FreesAmong c.now d.old d.new (waits q.old) (waits q.new) variable constraint among }
     ensures freed { (x : ℕ) → within c.now variable x ≡ true → has_bit among x ≡ true → (entry d.new.why variable x).constraint ≡ constraint → shown d.new variable x ≡ true }
@@ -94,8 +94,8 @@ pub(crate) fn free_beside(
     requires variable { returning.variable < 32 }
     requires value { returning.value < 64 }
     requires shape { Shape c.now }
-    requires roomy { Roomy c.now d.old q.old }
-    ensures roomy { Roomy c.now d.new q.new }
+    requires spare { Spare c.now d.old q.old }
+    ensures spare { Spare c.now d.new q.new }
     ensures grew { Grew d.old d.new q.old q.new }
     ensures follows { (p : ℕ) (d₀ : Domains) → Releasing c.now p d₀ d.old (returning ∷ waits q.old) → Releasing c.now p d₀ d.new (waits q.new) }
 {

@@ -1,6 +1,6 @@
 // One value goes out or comes back.
 ghost use Rattle.std.specs.Prelude.{◌≡◌, ℕ, ◌+◌, ◌-◌, ◌^◌, ◌<◌, ◌≤◌, true, false, length, ◌≢◌, slice_index};
-ghost use Rattle.justify.specs.Changes.{PutOut, PutBack};
+ghost use Rattle.arcs.specs.Changes.{PutOut, PutBack};
 ghost use Rattle.domains.specs.Model.{shown, standing, total};
 
 use crate::value::Value;

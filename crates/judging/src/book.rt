@@ -2,7 +2,7 @@
 // the catalogs, the sets of bits and the names of the causes of refusal.
 use crate::clock::Clock;
 use catalog::Catalog;
-use refusal::Refusal;
+use catalog::refusal::Refusal;
 use std::alloc::{AllocError, Global};
 use std::ops::Range;
 
@@ -13,7 +13,7 @@ pub struct Value {
     pub value: usize,
 }
 
-// A call: the constraint that is to be added, or retracted. Not `sheet_moves::Move`, whose index is two bytes of a sheet: a trial has no sheet, and a
+// A call: the constraint that is to be added, or retracted. Not `sheet::Move`, whose index is two bytes of a sheet: a trial has no sheet, and a
 // constraint is any `usize`, as the solvers take it. Nor `network::Call`, which is a question or an opening too, and belongs to what is judged.
 #[derive(Clone, Copy)]
 pub enum Call {
@@ -103,10 +103,10 @@ impl Book {
 
     // Do buffers of so many entries and the clock allow a call that the rest allows, or why not? Where the book does not know whether the clock is spent, it
     // is as is `said`.
-    pub fn may_now(&self, waiting: usize, returning: usize, said: bool) -> Result<(), Refusal> {
+    pub fn may_now(&self, waiting: usize, returning: usize, move_of: bool) -> Result<(), Refusal> {
         if waiting < 128 || returning < 2048 {
             Err(Refusal::ShortBuffer)
-        } else if self.clock.spent().unwrap_or(said) {
+        } else if self.clock.spent().unwrap_or(move_of) {
             Err(Refusal::ClockSpent)
         } else {
             Ok(())

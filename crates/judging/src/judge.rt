@@ -1,15 +1,15 @@
 // Whether the justifications that a solver tells are right, judged from the definition.
 use crate::book::{Book, Value};
-use crate::told::Told;
+use crate::reported::Reported;
 use catalog::Catalog;
 use std::alloc::{AllocError, Global};
 
-// What a solver told, and by what it is judged.
+// What a solver reported, and by what it is judged.
 #[derive(Drop)]
 pub struct Judge<'a, C> {
     pub catalog: &'a C,
     pub book: &'a Book,
-    pub told: &'a Told,
+    pub reported: &'a LawOf,
 }
 
 impl<C: Catalog> Judge<'_, C> {
@@ -39,15 +39,15 @@ impl<C: Catalog> Judge<'_, C> {
         };
         let goes_before = |y| {
             let other = Value { variable, value: y };
-            !self.fits(p, value, y) || self.told.out_before(other, time)
+            !self.fits(p, value, y) || self.reported.out_before(other, time)
         };
         self.book.is_in(p) && (0..self.book.size(variable)).all(goes_before)
     }
 
     // Is the value shown and without an account, or out with one that holds?
     fn value_justified(&self, value: Value) -> bool {
-        let shown = self.told.shows(value);
-        let Some(account) = self.told.account(value) else {
+        let shown = self.reported.shows(value);
+        let Some(account) = self.reported.account(value) else {
             return shown;
         };
         !shown
@@ -70,7 +70,7 @@ impl<C: Catalog> Judge<'_, C> {
             .book
             .values
             .iter()
-            .filter_map(|value| self.told.account(*value));
+            .filter_map(|value| self.reported.account(*value));
         let mut times: Vec<u64> = accounts.map(|account| account.time).collect(heap)?;
         times.sort_unstable();
         Ok(times.array_windows::<2>().all(|[a, b]| a != b))

@@ -9,7 +9,7 @@ pub mod expected;
 pub mod judge;
 pub mod met;
 pub mod rests;
-pub mod told;
+pub mod reported;
 pub mod trouble;
 
 pub use clock::LAST_TIME;

@@ -1,5 +1,5 @@
 // Which causes of refusal a trial has met.
-use refusal::Refusal;
+use catalog::refusal::Refusal;
 
 // The causes, as a set of their numbers.
 #[derive(Clone, Copy)]

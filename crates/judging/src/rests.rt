@@ -1,7 +1,7 @@
 // Which justifications rest on a constraint, worked out from the definition; and which are to be kept.
 use crate::book::Value;
 use crate::judge::Judge;
-use crate::told::Told;
+use crate::reported::Reported;
 use catalog::Catalog;
 use std::alloc::{AllocError, Global};
 
@@ -30,7 +30,7 @@ impl<C: Catalog> Judge<'_, C> {
     // Does the value's justification rest on `p`, as far as is known: does it name `p`, or is there a support under its constraint that rests on it?
     fn rests(&self, resting: &Resting, value: Value, p: Option<usize>) -> bool {
         let Some(constraint) = self
-            .told
+            .reported
             .account(value)
             .and_then(|account| account.constraint)
         else {
@@ -72,10 +72,10 @@ impl<C: Catalog> Judge<'_, C> {
         Ok(resting)
     }
 
-    // Has each value that was out when this was told, and whose justification does not rest on what is retracted, the same justification after?
-    pub fn kept(&self, after: &Told, resting: &Resting) -> bool {
+    // Has each value that was out when this was reported, and whose justification does not rest on what is retracted, the same justification after?
+    pub fn kept(&self, after: &LawOf, resting: &Resting) -> bool {
         self.book.values.iter().all(|value| {
-            let before = self.told.account(*value);
+            let before = self.reported.account(*value);
             before.is_none() || resting.has(*value) || before == after.account(*value)
         })
     }

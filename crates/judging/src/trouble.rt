@@ -1,5 +1,5 @@
 // What a trial may find.
-use refusal::Refusal;
+use catalog::refusal::Refusal;
 use std::alloc::{AllocError, AllocFailed};
 
 #[derive(Clone, Copy, Debug)]

@@ -4,18 +4,18 @@ use Rattle.std.proofs.lemmas.Bool.{cases_lt}
 use Rattle.std.proofs.lemmas.List.{length-append, length-take-le, take-append-drop, drop-append-le}
 use Rattle.std.proofs.lemmas.Slice.{drop-append-drop}
 use Rattle.catalog.specs.Meaning.{Meaning}
-use Rattle.refusal.specs.declared.Refusal.{Refusal}
+use Rattle.catalog.specs.declared.refusal.Refusal.{Refusal}
 use Rattle.domains.specs.declared.Returning.{Returning}
 use Rattle.domains.specs.Stands.{Past}
-use Rattle.network_law.specs.declared.Answer.{Answer}
-use Rattle.network_law.specs.declared.Answer.TheVariants.{Changed, Refused}
-use Rattle.network_law.specs.declared.Change.{Change}
-use Rattle.network_law.specs.Buffers.{Buffers, Writes, Leaves}
-use Rattle.network_law.specs.Calls.{Call, Rooms, opens, adds, retracts, asks_domain, asks_shown, asks_justification, asks_wiped}
-use Rattle.network_law.specs.Moment.{Moment}
-use Rattle.network_law.specs.Step.{Turned}
-use Rattle.network_model.specs.declared.State.{State}
-use Rattle.network_model.specs.Performs.{Took, TookLent, answer_by, buffers, rooms_of}
+use Rattle.network.specs.declared.law.Answer.{Answer}
+use Rattle.network.specs.declared.law.Answer.TheVariants.{Changed, Refused}
+use Rattle.network.specs.declared.law.Change.{Change}
+use Rattle.network.specs.Buffers.{Buffers, Writes, Leaves}
+use Rattle.network.specs.Calls.{Call, Lengths, opens, adds, retracts, asks_domain, asks_shown, asks_justification, asks_wiped}
+use Rattle.network.specs.Moment.{Moment}
+use Rattle.network.specs.Step.{Turned}
+use Rattle.network.specs.declared.state.State.{State}
+use Rattle.network.specs.Performs.{Took, TookLent, answer_by, buffers, lengths_of}
 use Rattle.network.specs.Requests.{cut}
 use Rattle.network.specs.declared.calls.Lent.{Lent}
 
@@ -77,8 +77,8 @@ same_parts w w' v v' i j e =
 -- what is written to parts is written to the buffers
 writes_part : (k : Call) (w w' : List ℕ) (v v' : List Returning) (i j : ℕ) → i ≤ length w → j ≤ length v → Writes k (buffers (take i w) (take j v)) (buffers w' v') → Writes k (buffers w v) (buffers (w' ++ drop i w) (v' ++ drop j v))
 writes_part (opens sizes time) w w' v v' i j f g e = same_parts w w' v v' i j e
-writes_part (adds p rooms) w w' v v' i j f g e = (past_part 128 i w w' f e.0, same_part j v v' e.1)
-writes_part (retracts p rooms) w w' v v' i j f g e = (past_part 128 i w w' f e.0, past_part 2048 j v v' g e.1)
+writes_part (adds p lengths) w w' v v' i j f g e = (past_part 128 i w w' f e.0, same_part j v v' e.1)
+writes_part (retracts p lengths) w w' v v' i j f g e = (past_part 128 i w w' f e.0, past_part 2048 j v v' g e.1)
 writes_part (asks_domain n) w w' v v' i j f g e = same_parts w w' v v' i j e
 writes_part (asks_shown n x) w w' v v' i j f g e = same_parts w w' v v' i j e
 writes_part (asks_justification n x) w w' v v' i j f g e = same_parts w w' v v' i j e
@@ -99,8 +99,8 @@ part_lent m s s' k a w w' v v' i j f g took =
     }
 
 -- the parts are as long as the call is lent
-pub lent_rooms : (w : List ℕ) (v : List Returning) (k l : ℕ) (lent : Lent) → k ≡ min lent.waiting (length w) → l ≡ min lent.returning (length v) → rooms_of (take k w) (take l v) ≡ cut (rooms_of w v) lent
-lent_rooms w v k l lent e f =
+pub lent_lengths : (w : List ℕ) (v : List Returning) (k l : ℕ) (lent : Lent) → k ≡ min lent.waiting (length w) → l ≡ min lent.returning (length v) → lengths_of (take k w) (take l v) ≡ cut (lengths_of w v) lent
+lent_lengths w v k l lent e f =
     let p : length (take k w) ≡ min lent.waiting (length w) = length-take-le k w (omega (arith, e)) ∙ e in
     let q : length (take l v) ≡ min lent.returning (length v) = length-take-le l v (omega (arith, f)) ∙ f in
     λ i. record { waiting = p i; returning = q i }

@@ -5,16 +5,16 @@ use Rattle.std.proofs.lemmas.List.{map_more, take_more_set, take_all, drop-drop,
 use Rattle.catalog.specs.Meaning.{Meaning}
 use Rattle.domains.specs.declared.Returning.{Returning}
 use Rattle.domains.specs.Stands.{Past}
-use Rattle.network_law.specs.declared.Answer.{Answer}
-use Rattle.network_law.specs.Buffers.{Buffers}
-use Rattle.network_law.specs.Calls.{Rooms}
-use Rattle.network_law.specs.Calls.{Call as Asked}
-use Rattle.network_law.specs.Moment.{Moment}
-use Rattle.network_law.specs.History.{Performed, History}
-use Rattle.network_law.proofs.Histories.{one_more}
-use Rattle.network_model.specs.declared.State.{State}
-use Rattle.network_model.specs.Model.{moment_of}
-use Rattle.network_model.specs.Performs.{TookLent, rooms_of}
+use Rattle.network.specs.declared.law.Answer.{Answer}
+use Rattle.network.specs.Buffers.{Buffers}
+use Rattle.network.specs.Calls.{Lengths}
+use Rattle.network.specs.Calls.{Call as Asked}
+use Rattle.network.specs.Moment.{Moment}
+use Rattle.network.specs.History.{Performed, History}
+use Rattle.network.proofs.Histories.{one_more}
+use Rattle.network.specs.declared.state.State.{State}
+use Rattle.network.specs.Model.{moment_of}
+use Rattle.network.specs.Performs.{TookLent, lengths_of}
 use Rattle.network.specs.Requests.{call_of, calls_of}
 use Rattle.network.specs.declared.calls.Call.{Call}
 
@@ -43,8 +43,8 @@ take_there n m xs e =
     (cases_lt m (length xs))
 
 -- buffers that are as long as they were
-pub same_rooms : (w w' : List ℕ) (r r' : List Returning) → Past 128 w w' → Past 2048 r r' → rooms_of w' r' ≡ rooms_of w r
-same_rooms w w' r r' p q k = record { waiting = p.long k; returning = q.long k }
+pub same_lengths : (w w' : List ℕ) (r r' : List Returning) → Past 128 w w' → Past 2048 r r' → lengths_of w' r' ≡ lengths_of w r
+same_lengths w w' r r' p q k = record { waiting = p.long k; returning = q.long k }
 
 -- one call more at the end
 pub lent_more
@@ -54,17 +54,17 @@ lent_more m m' first b c d ks answers k a s s' same history took =
     one_more m first (moment_of s) (moment_of s') b c d ks answers k a history (subst (λ v. Performed v (moment_of s) c k a (moment_of s') d) same took.performed)
 
 pub call_more
-    : (m m' : Meaning) (first : Moment) (b c d : Buffers) (calls : List Call) (i : ℕ) (default : Call) (rooms rooms' : Rooms) (answers : List Answer) (a : Answer) (s s' : State)
-    → i < length calls → i < length answers → rooms' ≡ rooms → m' ≡ m
-    → History m first b (calls_of rooms (take i calls)) (take i answers) (moment_of s) c → TookLent m' s c (call_of rooms' (get_or calls i default)) a s' d
-    → History m first b (calls_of rooms (take (i + 1) calls)) (take (i + 1) (set answers i a)) (moment_of s') d
-call_more m m' first b c d calls i default rooms rooms' answers a s s' low there lent same history did =
+    : (m m' : Meaning) (first : Moment) (b c d : Buffers) (calls : List Call) (i : ℕ) (default : Call) (lengths lengths' : Lengths) (answers : List Answer) (a : Answer) (s s' : State)
+    → i < length calls → i < length answers → lengths' ≡ lengths → m' ≡ m
+    → History m first b (calls_of lengths (take i calls)) (take i answers) (moment_of s) c → TookLent m' s c (call_of lengths' (get_or calls i default)) a s' d
+    → History m first b (calls_of lengths (take (i + 1) calls)) (take (i + 1) (set answers i a)) (moment_of s') d
+call_more m m' first b c d calls i default lengths lengths' answers a s s' low there lent same history did =
     let call : Call = get_or calls i default in
-    let U : Rooms → Type 0 = λ v. TookLent m' s c (call_of v call) a s' d in
-    let more : calls_of rooms (take (i + 1) calls) ≡ calls_of rooms (take i calls) ++ (call_of rooms call ∷ []) =
-    map_more (call_of rooms) calls i default low
+    let U : Lengths → Type 0 = λ v. TookLent m' s c (call_of v call) a s' d in
+    let more : calls_of lengths (take (i + 1) calls) ≡ calls_of lengths (take i calls) ++ (call_of lengths call ∷ []) =
+    map_more (call_of lengths) calls i default low
     in
     let H : List Asked → Type 0 = λ v. History m first b v (take i answers ++ (a ∷ [])) (moment_of s') d in
-    let K : List Answer → Type 0 = λ v. History m first b (calls_of rooms (take (i + 1) calls)) v (moment_of s') d in
+    let K : List Answer → Type 0 = λ v. History m first b (calls_of lengths (take (i + 1) calls)) v (moment_of s') d in
     subst K (sym (take_more_set answers i a there))
-    (subst H (sym more) (lent_more m m' first b c d (calls_of rooms (take i calls)) (take i answers) (call_of rooms call) a s s' same history (subst U lent did)))
+    (subst H (sym more) (lent_more m m' first b c d (calls_of lengths (take i calls)) (take i answers) (call_of lengths call) a s s' same history (subst U lent did)))

@@ -1,8 +1,8 @@
 -- Calls made one by one, with their results as answers.
 use Rattle.std.specs.Prelude.{List, [], ◌∷◌}
-use Rattle.network_law.specs.declared.Answer.{Answer}
-use Rattle.network_law.specs.declared.Answer.TheVariants.{Opened, Changed, Domain}
-use Rattle.network_model.specs.Performs.{answer_by}
+use Rattle.network.specs.declared.law.Answer.{Answer}
+use Rattle.network.specs.declared.law.Answer.TheVariants.{Opened, Changed, Domain}
+use Rattle.network.specs.Performs.{answer_by}
 use Rattle.network.specs.declared.by_hand.Tried.{Tried}
 
 -- the answers to the five calls, in their order

@@ -1,3 +1,15 @@
 pub mod Requests
 pub mod Served
 pub mod ByHand
+pub mod Model
+pub mod Alike
+pub mod Performs
+pub mod Moment
+pub mod Calls
+pub mod Buffers
+pub mod Refusals
+pub mod Counting
+pub mod Step
+pub mod History
+pub mod Theorems
+pub mod Text

@@ -1,10 +1,10 @@
 -- What a call on a network does, by the meaning of the network's catalog.
 use Rattle.catalog.specs.Meaning.{Meaning}
-use Rattle.network_law.specs.declared.Answer.{Answer}
-use Rattle.network_law.specs.Buffers.{Buffers}
-use Rattle.network_law.specs.Calls.{Call}
-use Rattle.network_model.specs.Model.{Linked}
-use Rattle.network_model.specs.Performs.{Performs, TookLent}
+use Rattle.network.specs.declared.law.Answer.{Answer}
+use Rattle.network.specs.Buffers.{Buffers}
+use Rattle.network.specs.Calls.{Call}
+use Rattle.network.specs.Model.{Linked}
+use Rattle.network.specs.Performs.{Performs, TookLent}
 use Rattle.network.specs.declared.network.Network.{Network}
 
 -- the network is linked to its catalog: what it knows of constraints is what the catalog means

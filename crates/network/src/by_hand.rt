@@ -2,16 +2,16 @@
 ghost use Rattle.std.specs.Prelude.{◌≡◌, [], ◌∷◌};
 ghost use Rattle.network.specs.ByHand.{answers_of};
 ghost use Rattle.network.specs.Served.{Stands};
-ghost use Rattle.network_law.specs.Calls.{adds, asks_domain, opens, retracts};
-ghost use Rattle.network_law.specs.History.{Run};
-ghost use Rattle.network_model.specs.Model.{moment_of};
-ghost use Rattle.network_model.specs.Performs.{buffers, rooms_of};
+ghost use Rattle.network.specs.Calls.{adds, asks_domain, opens, retracts};
+ghost use Rattle.network.specs.History.{Run};
+ghost use Rattle.network.specs.Model.{moment_of};
+ghost use Rattle.network.specs.Performs.{buffers, lengths_of};
 
 use crate::network::Network;
 use catalog::Catalog;
 use domains::Returning;
-use network_law::Change;
-use refusal::Refusal;
+use crate::law::Change;
+use catalog::refusal::Refusal;
 
 // What came of trying one constraint out.
 #[derive(Clone, Copy, PartialEq, Eq, Debug)]
@@ -37,7 +37,7 @@ pub fn try_out<C: Catalog>(
 ) -> (Network<C>, Tried)
     ensures catalog { result.0.catalog ≡ catalog }
     ensures stands { Stands C.Catalog.meaning result.0 }
-    ensures law { Run (C.Catalog.meaning catalog) (buffers waiting.old returning.old) (opens sizes.now 0 ∷ adds constraint (rooms_of waiting.old returning.old) ∷ asks_domain variable ∷ retracts constraint (rooms_of waiting.old returning.old) ∷ asks_domain variable ∷ []) (answers_of result.1) (moment_of result.0.state) (buffers waiting.new returning.new) }
+    ensures law { Run (C.Catalog.meaning catalog) (buffers waiting.old returning.old) (opens sizes.now 0 ∷ adds constraint (lengths_of waiting.old returning.old) ∷ asks_domain variable ∷ retracts constraint (lengths_of waiting.old returning.old) ∷ asks_domain variable ∷ []) (answers_of result.1) (moment_of result.0.state) (buffers waiting.new returning.new) }
 {
     let mut network = Network::new(catalog);
     let opened = network.open(sizes, 0);

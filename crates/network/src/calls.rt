@@ -3,17 +3,17 @@ ghost use Rattle.std.specs.Prelude.{◌≡◌, length, min, take};
 ghost use Rattle.domains.specs.Stands.{Past};
 ghost use Rattle.network.specs.Requests.{call_of, calls_of, cut};
 ghost use Rattle.network.specs.Served.{ServesLent, Stands};
-ghost use Rattle.network_law.specs.Calls.{adds, retracts};
-ghost use Rattle.network_law.specs.History.{History, Run};
-ghost use Rattle.network_model.specs.Model.{moment_of};
-ghost use Rattle.network_model.specs.Performs.{answer_by, buffers, rooms_of};
-ghost use Rattle.network_law.specs.declared.Answer.TheVariants.{Changed};
+ghost use Rattle.network.specs.Calls.{adds, retracts};
+ghost use Rattle.network.specs.History.{History, Run};
+ghost use Rattle.network.specs.Model.{moment_of};
+ghost use Rattle.network.specs.Performs.{answer_by, buffers, lengths_of};
+ghost use Rattle.network.specs.declared.law.Answer.TheVariants.{Changed};
 
 use crate::network::Network;
 use catalog::Catalog;
 use domains::Returning;
-use network_law::{Answer, Change};
-use refusal::Refusal;
+use crate::law::{Answer, Change};
+use catalog::refusal::Refusal;
 
 // How many entries of the two buffers a call is lent: for constraints that wait, and for values that come back. Of a shorter buffer it gets all.
 #[derive(Clone, Copy, PartialEq, Eq, Debug)]
@@ -59,7 +59,7 @@ impl<C: Catalog> Network<C> {
         returning: &mut [Returning],
     ) -> Result<Change, Refusal>
         ensures catalog { self.new.catalog ≡ self.old.catalog }
-        ensures performs { ServesLent C.Catalog.meaning self.old (buffers waiting.old returning.old) (adds constraint (cut (rooms_of waiting.old returning.old) lent)) (answer_by Changed result) self.new (buffers waiting.new returning.new) }
+        ensures performs { ServesLent C.Catalog.meaning self.old (buffers waiting.old returning.old) (adds constraint (cut (lengths_of waiting.old returning.old) lent)) (answer_by Changed result) self.new (buffers waiting.new returning.new) }
         ensures past { Past 128 waiting.old waiting.new }
         ensures past_returning { returning.new ≡ returning.old }
     {
@@ -80,7 +80,7 @@ impl<C: Catalog> Network<C> {
         returning: &mut [Returning],
     ) -> Result<Change, Refusal>
         ensures catalog { self.new.catalog ≡ self.old.catalog }
-        ensures performs { ServesLent C.Catalog.meaning self.old (buffers waiting.old returning.old) (retracts constraint (cut (rooms_of waiting.old returning.old) lent)) (answer_by Changed result) self.new (buffers waiting.new returning.new) }
+        ensures performs { ServesLent C.Catalog.meaning self.old (buffers waiting.old returning.old) (retracts constraint (cut (lengths_of waiting.old returning.old) lent)) (answer_by Changed result) self.new (buffers waiting.new returning.new) }
         ensures past { Past 128 waiting.old waiting.new }
         ensures past_returning { Past 2048 returning.old returning.new }
     {
@@ -95,7 +95,7 @@ impl<C: Catalog> Network<C> {
     // One call, with its answer.
     fn answer(&mut self, call: Call<'_>, waiting: &mut [u8], returning: &mut [Returning]) -> Answer
         ensures catalog { self.new.catalog ≡ self.old.catalog }
-        ensures performs { ServesLent C.Catalog.meaning self.old (buffers waiting.old returning.old) (call_of (rooms_of waiting.old returning.old) call.entry) result self.new (buffers waiting.new returning.new) }
+        ensures performs { ServesLent C.Catalog.meaning self.old (buffers waiting.old returning.old) (call_of (lengths_of waiting.old returning.old) call.entry) result self.new (buffers waiting.new returning.new) }
         ensures past { Past 128 waiting.old waiting.new }
         ensures past_returning { Past 2048 returning.old returning.new }
     {
@@ -133,7 +133,7 @@ impl<C: Catalog> Network<C> {
     )
         ensures catalog { self.new.catalog ≡ self.old.catalog }
         ensures stands { Stands C.Catalog.meaning self.old → Stands C.Catalog.meaning self.new }
-        ensures law { Stands C.Catalog.meaning self.old → History (C.Catalog.meaning self.old.catalog) (moment_of self.old.state) (buffers waiting.old returning.old) (calls_of (rooms_of waiting.old returning.old) (take (length answers.old) calls.now)) (take (length calls.now) answers.new) (moment_of self.new.state) (buffers waiting.new returning.new) }
+        ensures law { Stands C.Catalog.meaning self.old → History (C.Catalog.meaning self.old.catalog) (moment_of self.old.state) (buffers waiting.old returning.old) (calls_of (lengths_of waiting.old returning.old) (take (length answers.old) calls.now)) (take (length calls.now) answers.new) (moment_of self.new.state) (buffers waiting.new returning.new) }
         ensures answers { Past (length calls.now) answers.old answers.new }
         ensures past { Past 128 waiting.old waiting.new }
         ensures past_returning { Past 2048 returning.old returning.new }
@@ -157,7 +157,7 @@ pub fn perform<C: Catalog>(
 ) -> Network<C>
     ensures catalog { result.catalog ≡ catalog }
     ensures stands { Stands C.Catalog.meaning result }
-    ensures law { Run (C.Catalog.meaning catalog) (buffers waiting.old returning.old) (calls_of (rooms_of waiting.old returning.old) (take (length answers.old) calls.now)) (take (length calls.now) answers.new) (moment_of result.state) (buffers waiting.new returning.new) }
+    ensures law { Run (C.Catalog.meaning catalog) (buffers waiting.old returning.old) (calls_of (lengths_of waiting.old returning.old) (take (length answers.old) calls.now)) (take (length calls.now) answers.new) (moment_of result.state) (buffers waiting.new returning.new) }
     ensures answers { Past (length calls.now) answers.old answers.new }
     ensures past { Past 128 waiting.old waiting.new }
     ensures past_returning { Past 2048 returning.old returning.new }

@@ -3,8 +3,13 @@
 
 mod by_hand;
 mod calls;
+mod law;
 mod network;
+mod state;
 
 pub use by_hand::{Tried, try_out};
 pub use calls::{Call, Lent, perform};
+pub use law::{
+    Answer, Change, histories_are_steps, histories_join, histories_part, histories_right, steps_join,
+};
 pub use network::Network;

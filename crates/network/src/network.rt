@@ -1,4 +1,4 @@
-use network_model::State;
+use crate::state::State;
 
 mod asking;
 mod changing;

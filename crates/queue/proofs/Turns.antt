@@ -99,7 +99,7 @@ module _ {T : Type 0} where
 
   -- as many wait as the queue counts
   pub length-waits : (q : Queue T) → length (waits q) ≡ q.len
-  length-waits q = length-waiting q.room.now q.limit q.head q.len q.within q.turn q.few
+  length-waits q = length-waiting q.buffer.now q.limit q.head q.len q.within q.turn q.few
 
 -- the two ways to the place of the next entry
 pub tail_ways : (n h k t : ℕ) → t ≡ cond (ltb k (n - h)) (h + k) (k - (n - h)) → ((k < n - h) × (t ≡ h + k)) ⊎ ((n - h ≤ k) × (t ≡ k - (n - h)))

@@ -12,8 +12,8 @@ left25 x = bit_xor x (x * 2 ^ 25 % 2 ^ 64)
 abbrev pub right27 : ℕ → ℕ
 right27 x = bit_xor x (x / 2 ^ 27)
 
-abbrev pub stirred : ℕ → ℕ
-stirred x = right27 (left25 (right12 x))
+abbrev pub shifted : ℕ → ℕ
+shifted x = right27 (left25 (right12 x))
 
 -- by which the state is multiplied to give the number
 abbrev pub FACTOR : ℕ

@@ -2,7 +2,7 @@
 #![tactic(auto)]
 
 ghost use Rattle.std.specs.Prelude.{◌*◌, ◌<◌, ◌≤◌, ◌%◌, ◌^◌, ◌≡◌, max};
-ghost use Rattle.random.specs.Xorshift.{FACTOR, stirred};
+ghost use Rattle.random.specs.Xorshift.{FACTOR, shifted};
 
 pub mod density;
 pub mod drawn;
@@ -28,8 +28,8 @@ impl Random {
 
     // The next number.
     pub fn draw(&mut self) -> u64
-        ensures state { self.new.state ≡ stirred self.old.state }
-        ensures value { result ≡ stirred self.old.state * FACTOR % 2 ^ 64 }
+        ensures state { self.new.state ≡ shifted self.old.state }
+        ensures value { result ≡ shifted self.old.state * FACTOR % 2 ^ 64 }
     {
         let mut x = self.state;
         x ^= x >> 12;

@@ -2,18 +2,18 @@
 use Rattle.std.proofs.Common.{◌≡◌, ℕ, ◌<◌, not, ltb, List, length, Some, None, Option, ap, subst, ◌⊎◌, inl, inr}
 use Rattle.std.proofs.lemmas.Bool.{lt-ltb, cond-false}
 use Rattle.catalog.specs.Meaning.{Meaning}
-use Rattle.refusal.specs.declared.Refusal.{Refusal}
-use Rattle.refusal.specs.declared.Refusal.TheVariants.{NoSuchValue}
-use Rattle.refusal.specs.Causes.{sizes_refusal}
-use Rattle.network_law.specs.declared.Answer.{Answer}
-use Rattle.network_law.specs.declared.Answer.TheVariants.{Opened, Changed, Domain, Refused}
-use Rattle.network_law.specs.declared.Change.{Change}
-use Rattle.network_law.specs.Moment.{Moment}
-use Rattle.network_law.specs.Calls.{opens, asks_domain}
-use Rattle.network_law.specs.Refusals.{refusal, spent}
-use Rattle.network_law.specs.Step.{Step, Turned}
-use Rattle.sheet_moves.specs.declared.kinds.Move.{Move}
-use Rattle.sheet_moves.specs.declared.kinds.Move.TheVariants.{Add, Retract}
+use Rattle.catalog.specs.declared.refusal.Refusal.{Refusal}
+use Rattle.catalog.specs.declared.refusal.Refusal.TheVariants.{NoSuchValue}
+use Rattle.catalog.specs.Causes.{sizes_refusal}
+use Rattle.network.specs.declared.law.Answer.{Answer}
+use Rattle.network.specs.declared.law.Answer.TheVariants.{Opened, Changed, Domain, Refused}
+use Rattle.network.specs.declared.law.Change.{Change}
+use Rattle.network.specs.Moment.{Moment}
+use Rattle.network.specs.Calls.{opens, asks_domain}
+use Rattle.network.specs.Refusals.{refusal, spent}
+use Rattle.network.specs.Step.{Step, Turned}
+use Rattle.sheet.specs.declared.sheet_move.Move.{Move}
+use Rattle.sheet.specs.declared.sheet_move.Move.TheVariants.{Add, Retract}
 use Rattle.runner.specs.Runs.{move_call}
 
 -- an open with sizes that a network takes

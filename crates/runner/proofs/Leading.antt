@@ -2,17 +2,17 @@
 use Rattle.std.proofs.Common.{◌≤◌, Vec, Global, vec_len, vec_capacity, ◌≡◌, ℕ, zero, suc, ◌+◌, ◌<◌, List, [], ◌∷◌, ◌++◌, map, length, get_or, take, Some, Result, is_err, is_some, count_by, true, vec_items, sym, refl, ap, ◌∙◌, subst, ⊎_elim, add-one, arith}
 use Rattle.std.proofs.lemmas.List.{length-append, length-map, map_more, map-append}
 use Rattle.catalog.specs.Meaning.{Meaning}
-use Rattle.network_law.specs.declared.Answer.{Answer}
-use Rattle.network_law.specs.declared.Answer.TheVariants.{Domain, Opened}
-use Rattle.network_law.specs.declared.Change.{Change}
-use Rattle.network_law.specs.Buffers.{Buffers}
-use Rattle.network_law.specs.Calls.{Call, asks_domain, opens}
-use Rattle.network_law.specs.History.{History}
-use Rattle.network_law.specs.Moment.{Moment, Blank, Right}
-use Rattle.network_law.specs.Step.{Step}
-use Rattle.network_law.proofs.Histories.{join}
+use Rattle.network.specs.declared.law.Answer.{Answer}
+use Rattle.network.specs.declared.law.Answer.TheVariants.{Domain, Opened}
+use Rattle.network.specs.declared.law.Change.{Change}
+use Rattle.network.specs.Buffers.{Buffers}
+use Rattle.network.specs.Calls.{Call, asks_domain, opens}
+use Rattle.network.specs.History.{History}
+use Rattle.network.specs.Moment.{Moment, Blank, Right}
+use Rattle.network.specs.Step.{Step}
+use Rattle.network.proofs.Histories.{join}
 use Rattle.network.specs.Served.{Stands}
-use Rattle.sheet_moves.specs.declared.kinds.Move.{Move}
+use Rattle.sheet.specs.declared.sheet_move.Move.{Move}
 use Rattle.runner.specs.declared.faults.RunFault.{RunFault}
 use Rattle.runner.specs.declared.reports.Report.{Report}
 use Rattle.runner.specs.declared.running.Running.{Running}
@@ -58,7 +58,7 @@ pub record Going {C : Type 0} (meaning : C → Meaning) (r : Running C) (moves :
   pub made : MadeAll meaning r (map move_call (take i moves)) (vec_items os) s
   pub many : length (vec_items os) ≡ i
   pub len : vec_len os ≡ i
-  pub room : length moves ≤ vec_capacity os
+  pub spare : length moves ≤ vec_capacity os
 
 module _ {C : Type 0} (meaning : C → Meaning) where
   -- one call was a step of the law
@@ -84,9 +84,9 @@ module _ {C : Type 0} (meaning : C → Meaning) where
 
   pub made_one : (r r' : Running C) (before : ℕ) (v : Move) (k : Call) (a : Answer) (o : Outcome) → k ≡ move_call v → Led meaning r (k ∷ []) (a ∷ []) r' → outcome before a ≡ Some o
       → MadeOne meaning r before v o r'
-  made_one r r' before v k a o e l said =
+  made_one r r' before v k a o e l move_of =
       let led : Led meaning r (move_call v ∷ []) (a ∷ []) r' = subst (λ j. Led meaning r (j ∷ []) (a ∷ []) r') e l in
-      record { answer = a; led = led; outcome = said; sizes = (move_answers _ _ _ v a (led_step r r' (move_call v) a led)).1 }
+      record { answer = a; led = led; outcome = move_of; sizes = (move_answers _ _ _ v a (led_step r r' (move_call v) a led)).1 }
 
   -- no call
   pub led_none : (r : Running C) → Stands meaning r.network → Led meaning r [] [] r
@@ -119,7 +119,7 @@ module _ {C : Type 0} (meaning : C → Meaning) where
     made = made_more r s t moves i d (vec_items os) (vec_items later) o low so_far.many so_far.made one items;
     many = one_longer (vec_items os) (vec_items later) o i so_far.many items;
     len = omega (arith, len, so_far.len);
-    room = omega (arith, capacity, so_far.room);
+    spare = omega (arith, capacity, so_far.spare);
   }
 
   -- no variable yet, and one more

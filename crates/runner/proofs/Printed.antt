@@ -2,9 +2,9 @@
 use Rattle.std.proofs.Common.{◌≡◌, ℕ, suc, ◌+◌, ◌<◌, ◌≤◌, min, List, [], ◌∷◌, ◌++◌, length, get_or, drop, Result, sym, refl, ap, ◌∙◌, ⊎_elim, arith}
 use Rattle.std.proofs.lemmas.Bool.{cases_lt}
 use Rattle.std.proofs.lemmas.List.{append_assoc, append-nil, at_drop_more, at_drop_all}
-use Rattle.network_law.specs.declared.Change.{Change}
-use Rattle.sheet_moves.specs.declared.kinds.Move.{Move}
-use Rattle.run_text.specs.Lines.{domain_line}
+use Rattle.network.specs.declared.law.Change.{Change}
+use Rattle.sheet.specs.declared.sheet_move.Move.{Move}
+use Rattle.runner.specs.Lines.{domain_line}
 use Rattle.runner.specs.declared.faults.RunFault.{RunFault}
 use Rattle.runner.specs.Lines.{ended, move_line, moves_text, domains_text}
 

@@ -1,6 +1,6 @@
 -- What the faults of a run say: the number of the cause, the byte, and how many came before.
 use Rattle.std.specs.Prelude.{ℕ, Some, None, Option}
-use Rattle.refusal.specs.Number.{number_of}
+use Rattle.catalog.specs.Number.{number_of}
 use Rattle.sheet_format.specs.Faults as sheet
 use Rattle.runner.specs.declared.faults.RunFault.{RunFault}
 use Rattle.runner.specs.declared.faults.RunFault.TheVariants.{Sheet, Move, Memory}

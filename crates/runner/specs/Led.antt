@@ -1,16 +1,16 @@
 -- What calls on the network of a run lead to.
 use Rattle.std.specs.Prelude.{◌≡◌, ℕ, List, ◌∷◌, [], Some, Result}
 use Rattle.catalog.specs.Meaning.{Meaning}
-use Rattle.network_law.specs.declared.Answer.{Answer}
-use Rattle.network_law.specs.declared.Change.{Change}
-use Rattle.network_law.specs.Buffers.{Buffers}
-use Rattle.network_law.specs.Calls.{Call}
-use Rattle.network_law.specs.History.{History}
-use Rattle.network_law.specs.Moment.{Moment}
-use Rattle.network_model.specs.Model.{moment_of}
-use Rattle.network_model.specs.Performs.{buffers}
+use Rattle.network.specs.declared.law.Answer.{Answer}
+use Rattle.network.specs.declared.law.Change.{Change}
+use Rattle.network.specs.Buffers.{Buffers}
+use Rattle.network.specs.Calls.{Call}
+use Rattle.network.specs.History.{History}
+use Rattle.network.specs.Moment.{Moment}
+use Rattle.network.specs.Model.{moment_of}
+use Rattle.network.specs.Performs.{buffers}
 use Rattle.network.specs.Served.{Stands}
-use Rattle.sheet_moves.specs.declared.kinds.Move.{Move}
+use Rattle.sheet.specs.declared.sheet_move.Move.{Move}
 use Rattle.runner.specs.declared.faults.RunFault.{RunFault}
 use Rattle.runner.specs.declared.running.Running.{Running}
 use Rattle.runner.specs.Runs.{move_call, outcome, Outcomes}

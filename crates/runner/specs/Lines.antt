@@ -1,15 +1,19 @@
 -- What is printed of a run.
-use Rattle.std.specs.Prelude.{ℕ, suc, List, [], ◌∷◌, ◌++◌, Ok, Err, Result, codes, vec_items}
-use Rattle.network_law.specs.declared.Change.{Change}
-use Rattle.network_law.specs.Text.{change_text}
-use Rattle.refusal.specs.Text.{refusal_text}
-use Rattle.run_text.specs.Lines.{domain_line}
+use Rattle.std.specs.Prelude.{ℕ, suc, List, [], ◌∷◌, ◌++◌, Ok, Err, Result, codes, decimal, vec_items}
+use Rattle.network.specs.declared.law.Change.{Change}
+use Rattle.network.specs.Text.{change_text}
+use Rattle.bits.specs.Text.{values_text}
+use Rattle.catalog.specs.Text.{refusal_text}
 use Rattle.sheet_format.specs.Lines.{fault_line}
-use Rattle.sheet_moves.specs.declared.kinds.Move.{Move}
-use Rattle.sheet_moves.specs.Text.{move_text}
+use Rattle.sheet.specs.declared.sheet_move.Move.{Move}
+use Rattle.sheet.specs.Text.{move_text}
 use Rattle.runner.specs.declared.faults.RunFault.{RunFault}
 use Rattle.runner.specs.declared.faults.RunFault.TheVariants as run
 use Rattle.runner.specs.declared.reports.Report.{Report}
+
+-- a variable and its values, or `none`
+abbrev pub domain_line : ℕ → ℕ → List ℕ
+domain_line variable domain = codes "at " ++ (decimal variable ++ values_text domain)
 
 -- a fault of a run: as that of the sheet, or as the refusal of the move
 abbrev pub fault_text : RunFault → List ℕ

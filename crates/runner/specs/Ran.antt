@@ -1,19 +1,19 @@
 -- What a run gives.
 use Rattle.std.specs.Prelude.{◌≡◌, ℕ, true, List, ◌∷◌, ◌++◌, length, map, None, Err, count_by, is_err, is_ok, vec_items}
 use Rattle.catalog.specs.Meaning.{Meaning}
-use Rattle.network_law.specs.declared.Answer.{Answer}
-use Rattle.network_law.specs.declared.Answer.TheVariants.{Opened, Domain}
-use Rattle.network_law.specs.Buffers.{Buffers}
-use Rattle.network_law.specs.History.{Run}
-use Rattle.network_law.specs.Moment.{Moment}
-use Rattle.refusal.specs.Causes.{sizes_refusal}
+use Rattle.network.specs.declared.law.Answer.{Answer}
+use Rattle.network.specs.declared.law.Answer.TheVariants.{Opened, Domain}
+use Rattle.network.specs.Buffers.{Buffers}
+use Rattle.network.specs.History.{Run}
+use Rattle.network.specs.Moment.{Moment}
+use Rattle.catalog.specs.Causes.{sizes_refusal}
 use Rattle.sheet_format.specs.Decoding.{decode}
 use Rattle.sheet_format.specs.Verdict.{Verdict, verdict}
-use Rattle.sheet_meaning.specs.Meant.{sheet_in}
-use Rattle.sheet_meaning.specs.Placed.{SizesOf}
-use Rattle.sheet_moves.specs.Moves.{said}
-use Rattle.sheet_moves.specs.declared.kinds.Move.{Move}
-use Rattle.sheet_pile.specs.Pile.{pile_of}
+use Rattle.sheet_format.specs.Meant.{sheet_in}
+use Rattle.sheet_format.specs.Placed.{SizesOf}
+use Rattle.sheet.specs.Moves.{move_of}
+use Rattle.sheet.specs.declared.sheet_move.Move.{Move}
+use Rattle.sheet_catalog.specs.Combined.{combined_of}
 use Rattle.runner.specs.declared.faults.RunFault.{RunFault}
 use Rattle.runner.specs.declared.faults.RunFault.TheVariants as fault
 use Rattle.runner.specs.declared.reports.Report.{Report}
@@ -37,15 +37,15 @@ pub record Ran (m : Meaning) (sizes : List ℕ) (moves : List Move) (report : Re
   pub each_variable : length (vec_items report.domains) ≡ length sizes
   pub refused : report.refused ≡ count_by is_err (vec_items report.outcomes)
 
--- The sheet is accepted and ran: with the sizes that it gives, which a network takes, and the moves that it encodes, on the pile of its constraints and the house's.
+-- The sheet is accepted and ran: with the sizes that it gives, which a network takes, and the moves that it encodes, on the combined catalog of its constraints and the house's.
 pub record SheetRan (bytes : List ℕ) (report : Report) : Type 0 where
   pub accepted : is_ok (verdict bytes) ≡ true
   pub sizes : List ℕ
   pub sized : SizesOf (sheet_in bytes) sizes
   pub good : sizes_refusal sizes ≡ None
   pub moves : List Move
-  pub moved : map said moves ≡ (decode bytes).moves
-  pub ran : Ran (pile_of bytes) sizes moves report
+  pub moved : map move_of moves ≡ (decode bytes).moves
+  pub ran : Ran (combined_of bytes) sizes moves report
 
 -- no run: the sheet is refused by its verdict, or memory is wanting for one that is accepted; never for a move
 abbrev pub Stopped : Verdict → RunFault → Type 0

@@ -1,16 +1,16 @@
 -- The calls that a run makes, and what it reads from their answers.
 use Rattle.std.specs.Prelude.{◌≡◌, ℕ, zero, suc, List, [], ◌∷◌, ◌++◌, map, length, Some, None, Ok, Err, Option, Result}
-use Rattle.network_law.specs.declared.Answer.{Answer}
-use Rattle.network_law.specs.declared.Answer.TheVariants.{Opened, Changed, Domain, Shown, Justified, Wiped, Refused}
-use Rattle.network_law.specs.declared.Change.{Change}
-use Rattle.network_law.specs.Calls.{Rooms, Call, opens, adds, retracts, asks_domain}
-use Rattle.sheet_moves.specs.declared.kinds.Move as sheet
-use Rattle.sheet_moves.specs.declared.kinds.Move.TheVariants.{Add, Retract}
+use Rattle.network.specs.declared.law.Answer.{Answer}
+use Rattle.network.specs.declared.law.Answer.TheVariants.{Opened, Changed, Domain, Shown, Justified, Wiped, Refused}
+use Rattle.network.specs.declared.law.Change.{Change}
+use Rattle.network.specs.Calls.{Lengths, Call, opens, adds, retracts, asks_domain}
+use Rattle.sheet.specs.declared.sheet_move.Move as sheet
+use Rattle.sheet.specs.declared.sheet_move.Move.TheVariants.{Add, Retract}
 use Rattle.runner.specs.declared.faults.RunFault.{RunFault}
 use Rattle.runner.specs.declared.faults.RunFault.TheVariants.{Move}
 
 -- each call is lent as much as any may need
-abbrev pub whole : Rooms
+abbrev pub whole : Lengths
 whole = record { waiting = 128; returning = 2048 }
 
 -- a move as a call

@@ -4,7 +4,7 @@ ghost use Rattle.runner.specs.Faults.{fault_number, fault_byte, fault_before};
 ghost use Rattle.runner.specs.Lines.{fault_text};
 ghost use Rattle.runner.specs.declared.faults.RunFault.TheVariants.{Sheet as OfSheet, Move as OfMove, Memory as NoMemory};
 
-use refusal::Refusal;
+use catalog::refusal::Refusal;
 use sheet_format::SheetFault;
 use std::alloc::AllocError;
 use std::fmt;

@@ -12,4 +12,4 @@ pub use faults::{MoveFault, RunFault};
 pub use reports::Report;
 pub use running::moving::run_moves;
 pub use sheets::{listing, run_sheet};
-pub use texts::{move_line, report_text};
+pub use texts::{domain_line, move_line, report_text};

@@ -3,7 +3,7 @@ ghost use Rattle.std.specs.Prelude.{◌≡◌, Some, count_by, is_err, is_some, 
 ghost use Rattle.runner.specs.Runs.{outcome};
 
 use crate::faults::{MoveFault, RunFault};
-use network_law::{Answer, Change};
+use network::{Answer, Change};
 
 // What came of the move that has so many before it, by the answer to it.
 pub(crate) fn outcome_of(answer: Answer, before: usize) -> Result<Change, RunFault>

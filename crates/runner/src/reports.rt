@@ -1,7 +1,7 @@
 // What a run gives.
 use crate::faults::RunFault;
-use network_law::Change;
-use sheet_moves::Move;
+use network::Change;
+use sheet::Move;
 
 // The moves of a run, what came of each, how many were refused, and the domain of each variable after them.
 #[derive(Drop)]

@@ -9,17 +9,17 @@ use crate::reports::Report;
 use crate::running::moving::run_moves;
 use crate::texts::report_text;
 use sheet::Accepted;
-use sheet_moves::moves_of;
-use sheet_pile::pile_of;
-use sheet_pile::sizes::Sizes;
+use sheet::moves_of;
+use sheet_catalog::combined_of;
+use sheet_catalog::sizes::Sizes;
 use std::alloc::{AllocError, Global};
 
-// Makes the moves of a checked sheet on a network that is opened at time 0 on the pile of its constraints and the house's, and asks for each domain.
+// Makes the moves of a checked sheet on a network that is opened at time 0 on the combined catalog of its constraints and the house's, and asks for each domain.
 fn run_accepted(heap: Global, sheet: &Accepted<'_>) -> Result<Report, AllocError>
     ensures { IfOk result (λ report. SheetRan sheet.now.bytes.now report) }
 {
     let moves = moves_of(heap, sheet)?;
-    run_moves(heap, pile_of(sheet), &Sizes::of(sheet), moves)
+    run_moves(heap, combined_of(sheet), &Sizes::of(sheet), moves)
 }
 
 // The same of any bytes, which are checked once. A refused sheet gives its fault, and no move is made.

@@ -1,12 +1,12 @@
 // The text of a run.
 ghost use Rattle.std.specs.Prelude.{◌≡◌, ◌++◌, [], IfOk, OnOk, string_bytes, vec_items};
-ghost use Rattle.runner.specs.Lines.{domains_text, ended, move_line, moves_text, report_text};
+ghost use Rattle.runner.specs.Lines.{domain_line, domains_text, ended, move_line, moves_text, report_text};
 
 use crate::faults::RunFault;
 use crate::reports::Report;
-use network_law::Change;
-use run_text::domain_line;
-use sheet_moves::Move;
+use network::Change;
+use sheet::Move;
+use bits::Values;
 use std::alloc::{AllocError, Global};
 
 // A move: its word, the index, and how many values went or came back and the wiped-out variable or `-`; of a refused one, `no` and the number.
@@ -64,4 +64,12 @@ pub fn report_text(heap: Global, report: &Report) -> Result<String, AllocError>
     add_moves(heap, &mut text, &report.moves, &report.outcomes)?;
     add_domains(heap, &mut text, &report.domains)?;
     Ok(text)
+}
+
+// A variable: `at`, its number, and its values in order, or `none`.
+pub fn domain_line(heap: Global, variable: usize, domain: u64) -> Result<String, AllocError>
+    ensures { IfOk result (λ t. string_bytes t ≡ domain_line variable domain) }
+{
+    let values = Values(domain);
+    format!(in heap; "at {variable}{values}")
 }

@@ -1,2 +1,5 @@
 pub mod Small
-pub mod Rungs
+pub mod Ladders
+pub mod Sets
+pub mod Chain
+pub mod Samples

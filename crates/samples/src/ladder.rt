@@ -1,26 +1,26 @@
 // A catalog of as many constraints as are wanted, up to 128.
 ghost use Rattle.std.specs.Prelude.{◌≡◌};
-ghost use Rattle.samples.specs.Rungs.{ladder, ladder_lawful};
+ghost use Rattle.samples.specs.Ladders.{ladder, ladder_lawful};
 
 use catalog::Catalog;
 
 // The constraint p says that the value of variable p % 31 lies below that of the next variable.
 #[derive(Clone, Copy)]
 pub struct Ladder {
-    pub rungs: usize,
+    pub count: usize,
 }
 
 impl Catalog for Ladder {
-    ghost meaning = { λ s. ladder s.rungs };
+    ghost meaning = { λ s. ladder s.count };
 
-    ghost lawful = { λ s. ladder_lawful s.rungs };
+    ghost lawful = { λ s. ladder_lawful s.count };
 
     fn count(&self) -> usize {
-        self.rungs.min(128)
+        self.count.min(128)
     }
 
     fn ends(&self, p: usize) -> Option<(usize, usize)> {
-        if p < self.rungs && p < 128 {
+        if p < self.count && p < 128 {
             Some((p % 31, p % 31 + 1))
         } else {
             None
@@ -28,6 +28,6 @@ impl Catalog for Ladder {
     }
 
     fn allows(&self, p: usize, x: usize, y: usize) -> bool {
-        p < self.rungs && p < 128 && y < 64 && x < y
+        p < self.count && p < 128 && y < 64 && x < y
     }
 }

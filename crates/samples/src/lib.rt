@@ -6,7 +6,10 @@ ghost use Rattle.samples.specs.Small.{meaning_of, sample_lawful};
 
 use catalog::Catalog;
 
+mod chain;
 pub mod ladder;
+
+pub use chain::chain_sheet;
 
 // Catalogs of two constraints each.
 #[derive(Clone, Copy)]

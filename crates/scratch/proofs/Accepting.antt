@@ -3,10 +3,10 @@ use Rattle.std.proofs.Common.{◌≡◌, ℕ, zero, suc, ◌+◌, ◌<◌, ◌�
 use Rattle.std.proofs.lemmas.List.{at_drop_more, at_drop_all}
 use Rattle.std.proofs.lemmas.Bool.{leb-true, and_parts, both_ways, eqb-true, ltb-true, or_cases}
 use Rattle.catalog.specs.Meaning.{Meaning}
-use Rattle.refusal.specs.Causes.{first, sizes_refusal, constraint_refusal}
-use Rattle.refusal.specs.declared.Refusal.{Refusal}
-use Rattle.refusal.specs.declared.Refusal.TheVariants.{NoSuchConstraint, EndOutside, ShortResult}
-use Rattle.refusal.proofs.Sizes.{Fitting, sizes_accepted, first_none, cond_none}
+use Rattle.catalog.specs.Causes.{first, sizes_refusal, constraint_refusal}
+use Rattle.catalog.specs.declared.refusal.Refusal.{Refusal}
+use Rattle.catalog.specs.declared.refusal.Refusal.TheVariants.{NoSuchConstraint, EndOutside, ShortResult}
+use Rattle.catalog.proofs.Sizes.{Fitting, sizes_accepted, first_none, cond_none}
 use Rattle.scratch.specs.Named.{named}
 use Rattle.scratch.specs.Refused.{indices_refusal, refusal}
 use Rattle.scratch.specs.Rows.{Bounded}
@@ -70,15 +70,15 @@ named_between m n (q ∷ ps) e p h =
     (or_cases (eqb q p) (named ps p) h)
 
 -- what is known where nothing refuses the arguments
-pub record Accepted (m : Meaning) (sizes indices : List ℕ) (room : ℕ) : Type 0 where
+pub record Accepted (m : Meaning) (sizes indices : List ℕ) (entries : ℕ) : Type 0 where
   pub fitting : Fitting sizes
   pub bounded : Bounded sizes
   pub each : indices_refusal m (length sizes) indices ≡ None
-  pub wide : length sizes ≤ room
+  pub wide : length sizes ≤ entries
 
-pub accepted : (m : Meaning) (sizes indices : List ℕ) (room : ℕ) → None ≡ refusal m sizes indices room → Accepted m sizes indices room
-accepted m sizes indices room e =
-    let later : Option Refusal = cond (leb (length sizes) room) None (Some ShortResult) in
+pub accepted : (m : Meaning) (sizes indices : List ℕ) (entries : ℕ) → None ≡ refusal m sizes indices entries → Accepted m sizes indices entries
+accepted m sizes indices entries e =
+    let later : Option Refusal = cond (leb (length sizes) entries) None (Some ShortResult) in
     let p = first_none (sizes_refusal sizes) (first (indices_refusal m (length sizes) indices) later) (sym e) in
     let q = first_none (indices_refusal m (length sizes) indices) later p.1 in
     let f : Fitting sizes = sizes_accepted sizes p.0 in
@@ -86,5 +86,5 @@ accepted m sizes indices room e =
       fitting = f;
       bounded = λ i h. (f.each i h).1;
       each = q.0;
-      wide = leb-true (length sizes) room (cond_none (leb (length sizes) room) None ShortResult q.1).0;
+      wide = leb-true (length sizes) entries (cond_none (leb (length sizes) entries) None ShortResult q.1).0;
     }

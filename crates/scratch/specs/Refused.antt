@@ -2,10 +2,10 @@
 use Rattle.std.specs.Prelude.{ℕ, cond, List, [], ◌∷◌, length, Some, None, Option, nat_le}
 use Rattle.catalog.specs.Meaning.{Meaning}
 use Rattle.std.specs.Option.{option_map}
-use Rattle.refusal.specs.Number.{number_of}
-use Rattle.refusal.specs.Causes.{first, sizes_refusal, constraint_refusal}
-use Rattle.refusal.specs.declared.Refusal.{Refusal}
-use Rattle.refusal.specs.declared.Refusal.TheVariants.{ShortResult}
+use Rattle.catalog.specs.Number.{number_of}
+use Rattle.catalog.specs.Causes.{first, sizes_refusal, constraint_refusal}
+use Rattle.catalog.specs.declared.refusal.Refusal.{Refusal}
+use Rattle.catalog.specs.declared.refusal.Refusal.TheVariants.{ShortResult}
 
 -- the first cause by the order of the list
 abbrev pub indices_refusal : Meaning → ℕ → List ℕ → Option Refusal
@@ -14,10 +14,10 @@ indices_refusal m n (p ∷ ps) = first (constraint_refusal m n p) (indices_refus
 
 -- the sizes first, then the indices, then the room for the result
 abbrev pub refusal : Meaning → List ℕ → List ℕ → ℕ → Option Refusal
-refusal m sizes indices room =
+refusal m sizes indices entries =
     first (sizes_refusal sizes)
-    (first (indices_refusal m (length sizes) indices) (cond (nat_le (length sizes) room) None (Some ShortResult)))
+    (first (indices_refusal m (length sizes) indices) (cond (nat_le (length sizes) entries) None (Some ShortResult)))
 
 -- the number by which it is refused, or nothing
 abbrev pub refusal_number : Meaning → List ℕ → List ℕ → ℕ → Option ℕ
-refusal_number m sizes indices room = option_map number_of (refusal m sizes indices room)
+refusal_number m sizes indices entries = option_map number_of (refusal m sizes indices entries)

@@ -5,8 +5,8 @@ ghost use Rattle.std.specs.Result.{result_err};
 
 use crate::request::Request;
 use catalog::Catalog;
-use refusal::Refusal;
-use refusal::checks::{check_constraint, check_sizes};
+use catalog::refusal::Refusal;
+use catalog::checks::{check_constraint, check_sizes};
 
 // Is each index one of a constraint between two of the first `n` variables?
 #[tactic(auto, using(crate::proofs::Accepting::indices_pass, crate::proofs::Accepting::indices_stop, crate::proofs::Accepting::indices_end))]
@@ -21,12 +21,12 @@ fn check_indices<C: Catalog>(catalog: &C, n: usize, indices: &[usize]) -> Result
 
 impl<C: Catalog> Request<'_, C> {
     // The first cause that refuses the request, where `room` is the length of the result list.
-    pub(crate) fn check(&self, room: usize) -> Result<(), Refusal>
-        ensures { result_err result ≡ refusal (C.Catalog.meaning self.now.catalog.now) self.now.sizes.now self.now.indices.now room }
+    pub(crate) fn check(&self, entries: usize) -> Result<(), Refusal>
+        ensures { result_err result ≡ refusal (C.Catalog.meaning self.now.catalog.now) self.now.sizes.now self.now.indices.now entries }
     {
         check_sizes(self.sizes)?;
         check_indices(self.catalog, self.sizes.len(), self.indices)?;
-        if self.sizes.len() <= room {
+        if self.sizes.len() <= entries {
             Ok(())
         } else {
             Err(Refusal::ShortResult)

@@ -2,7 +2,7 @@
 ghost use Rattle.std.specs.Prelude.{◌≡◌, ℕ, length, None};
 ghost use Rattle.arcs.specs.Family.{within_sizes};
 ghost use Rattle.bits.specs.Bits.{domains_of};
-ghost use Rattle.refusal.specs.Causes.{constraint_refusal};
+ghost use Rattle.catalog.specs.Causes.{constraint_refusal};
 ghost use Rattle.scratch.specs.Filled.{Adds, Filled, Turned};
 ghost use Rattle.scratch.specs.Named.{named};
 ghost use Rattle.scratch.specs.Refused.{indices_refusal};

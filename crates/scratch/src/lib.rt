@@ -3,13 +3,13 @@
 
 ghost use Rattle.std.specs.Prelude.{◌≡◌, length, None, MatchResult};
 ghost use Rattle.scratch.specs.Refused.{refusal, refusal_number};
-ghost use Rattle.refusal.specs.Number.{number_of};
+ghost use Rattle.catalog.specs.Number.{number_of};
 ghost use Rattle.std.specs.Option.{option_map};
 ghost use Rattle.scratch.specs.Written.{Written};
 ghost use Rattle.std.specs.Result.{result_err};
 
 use catalog::Catalog;
-use refusal::Refusal;
+use catalog::refusal::Refusal;
 use request::Request;
 
 mod accept;

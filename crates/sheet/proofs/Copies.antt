@@ -11,20 +11,20 @@ use Rattle.sheet_format.specs.declared.faults.Cause.TheVariants.{TooLong, Traili
 use Rattle.sheet_format.specs.declared.faults.SheetFault.{SheetFault}
 use Rattle.sheet_format.specs.declared.faults.RecordCause.{RecordCause}
 use Rattle.sheet_format.specs.declared.writing.WriteFault.{WriteFault}
-use Rattle.sheet_format.specs.declared.writing.WriteFault.TheVariants.{NoRoom, Closed}
+use Rattle.sheet_format.specs.declared.writing.WriteFault.TheVariants.{ShortBuffer, Closed}
 use Rattle.sheet_format.specs.Encoding.{Raw, framed}
 use Rattle.sheet_format.specs.Beginnings.{Begun, records_begun, bytes_begun, Keeps, begun_tally, nothing_begun}
 use Rattle.sheet_format.specs.Reading.{Shown, shown, Reading, taken, broken, reading}
 use Rattle.sheet_format.specs.Verdict.{Tally, nothing_yet, Step, goes, ends, stops, step, summary, Verdict, format_fault, after_step, after_reading, walked}
 use Rattle.sheet_format.specs.Writing.{entry_record, Pen, new_pen, lies_in, put_step, put, laid, Puts, PutsRecord, PutsEntry}
-use Rattle.sheet_law.proofs.NumberLaws.{Bytes}
-use Rattle.sheet_law.proofs.Framing.{Short, took, Framed, framed_again, framed_first}
-use Rattle.sheet_law.proofs.Held.{GoesHeld, goes_held, end_held}
-use Rattle.sheet_law.proofs.Shows.{KindIs, kind_is}
-use Rattle.sheet_law.proofs.Tallies.{past, bytes_more, place_more}
-use Rattle.sheet_law.proofs.Extending.{Extends, extends}
-use Rattle.sheet_law.proofs.Laws.{nothing_keeps}
-use Rattle.sheet_law.proofs.Growing.{Put, put_on, put_end, put_is, lies_is}
+use Rattle.sheet_format.proofs.NumberLaws.{Bytes}
+use Rattle.sheet_format.proofs.Framing.{Short, took, Framed, framed_again, framed_first}
+use Rattle.sheet_format.proofs.Held.{GoesHeld, goes_held, end_held}
+use Rattle.sheet_format.proofs.Shows.{KindIs, kind_is}
+use Rattle.sheet_format.proofs.Tallies.{past, bytes_more, place_more}
+use Rattle.sheet_format.proofs.Extending.{Extends, extends}
+use Rattle.sheet_format.proofs.Laws.{nothing_keeps}
+use Rattle.sheet_format.proofs.Growing.{Put, put_on, put_end, put_is, lies_is}
 use Rattle.sheet.specs.Sizes.{SizesLow}
 use Rattle.sheet.specs.declared.reader.Part.{Part}
 use Rattle.sheet.specs.declared.reader.Record.{Record}
@@ -129,9 +129,9 @@ not_lies size after e = by (ltb size after) refl (ltb 65535 after) refl e
     by false f true g h = inr (ltb-true 65535 after g)
     by false f false g h = absurd (let z : ◌≡◌ {A = ℕ} 0 1 = cc in omega arith)
 
-no_room : (t : Bool) (r : Pen) (f : WriteFault) → ◌≡◌ {A = Result Pen WriteFault} (cond t (Ok r) (Err NoRoom)) (Err f) → (t ≡ false) × (f ≡ NoRoom)
-no_room true r f e = absurd (let z : ◌≡◌ {A = ℕ} 0 1 = cc in omega arith)
-no_room false r f e = (refl, cc)
+short : (t : Bool) (r : Pen) (f : WriteFault) → ◌≡◌ {A = Result Pen WriteFault} (cond t (Ok r) (Err ShortBuffer)) (Err f) → (t ≡ false) × (f ≡ ShortBuffer)
+short true r f e = absurd (let z : ◌≡◌ {A = ℕ} 0 1 = cc in omega arith)
+short false r f e = (refl, cc)
 
 shut : (t : Bool) (r : Result Pen WriteFault) (f : WriteFault) → t ≡ true → cond t r (Err Closed) ≡ Err f → r ≡ Err f
 shut true r f e h = h
@@ -234,7 +234,7 @@ module _ (sheet before : List ℕ) (p : Pen) (left buffer : List ℕ) (c : Copyi
 
       by : (st : Step) → step p.tally n.shows (p.place + (4 + length n.raw.body)) ≡ st → put_step p (length buffer) (p.place + (4 + length n.raw.body)) st ≡ Err f → Copied sheet before ys (Err f)
       by (goes h) s r =
-          let t = no_room _ _ f r in
+          let t = short _ _ f r in
           let four = more_rest n.most (p.place + (4 + length n.raw.body)) (c.records + 1) n.rest h c.found rest_bytes (on_to h s) in
           let long = all_long in
           let size = same_size in
@@ -244,7 +244,7 @@ module _ (sheet before : List ℕ) (p : Pen) (left buffer : List ℕ) (c : Copyi
           ⊎_elim (λ l. l) (λ l. absurd (omega arith)) (not_lies (length buffer) (p.place + (4 + length n.raw.body) + 4) t.0) in
           (t.1, cut (omega arith) (omega arith))
       by ends s r =
-          let t = no_room _ _ f r in
+          let t = short _ _ f r in
           let long = all_long in
           let size = same_size in
           let short = c.short in

@@ -9,3 +9,5 @@ mod Limits
 mod Putting
 mod Unknown
 mod Used
+mod Places
+mod Standing

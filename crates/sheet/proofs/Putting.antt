@@ -1,7 +1,7 @@
 -- What a judged record makes of a writer.
 use Rattle.std.proofs.Common.{◌≡◌, ℕ, ◌+◌, ◌≤◌, Bool, true, false, cond, not, Ok, Err, Result, sym, refl, ap, ◌∙◌, subst, arith}
 use Rattle.sheet_format.specs.declared.writing.WriteFault.{WriteFault}
-use Rattle.sheet_format.specs.declared.writing.WriteFault.TheVariants.{NoRoom, Closed}
+use Rattle.sheet_format.specs.declared.writing.WriteFault.TheVariants.{ShortBuffer, Closed}
 use Rattle.sheet_format.specs.Reading.{Shown}
 use Rattle.sheet_format.specs.Verdict.{Tally, Step, step}
 use Rattle.sheet_format.specs.Writing.{Pen, lies_in, put_step, put}
@@ -16,29 +16,29 @@ opened p true r s e f = f
 opened p false r s e f = absurd (let z : ◌≡◌ {A = ℕ} 0 1 = cc in omega arith)
 
 -- a record that fits, and one that does not
-room : (b : Bool) (r : Pen) → b ≡ true → ◌≡◌ {A = Result Pen WriteFault} (cond b (Ok r) (Err NoRoom)) (Ok r)
-room true r e = refl
-room false r e = absurd (let z : ◌≡◌ {A = ℕ} 0 1 = cc in omega arith)
+fits_ok : (b : Bool) (r : Pen) → b ≡ true → ◌≡◌ {A = Result Pen WriteFault} (cond b (Ok r) (Err ShortBuffer)) (Ok r)
+fits_ok true r e = refl
+fits_ok false r e = absurd (let z : ◌≡◌ {A = ℕ} 0 1 = cc in omega arith)
 
-no_room : (b : Bool) (r : Pen) → b ≡ false → ◌≡◌ {A = Result Pen WriteFault} (cond b (Ok r) (Err NoRoom)) (Err NoRoom)
-no_room false r e = refl
-no_room true r e = absurd (let z : ◌≡◌ {A = ℕ} 0 1 = cc in omega arith)
+short : (b : Bool) (r : Pen) → b ≡ false → ◌≡◌ {A = Result Pen WriteFault} (cond b (Ok r) (Err ShortBuffer)) (Err ShortBuffer)
+short false r e = refl
+short true r e = absurd (let z : ◌≡◌ {A = ℕ} 0 1 = cc in omega arith)
 
 fits_step : (p : Pen) (size after : ℕ) (next : Next) (h : Tally) → Became p.tally (next_step p.tally after next) h → lies_in size (after + kept next) ≡ true
     → put_step p size after (next_step p.tally after next) ≡ Ok (record { tally = h; place = after; is_open = not (is_end next) })
-fits_step p size after (Heading n) h became fits = room _ _ fits ∙ ap (λ g. Ok (record { tally = g; place = after; is_open = true })) (sym became)
-fits_step p size after (Variable v) h became fits = room _ _ fits ∙ ap (λ g. Ok (record { tally = g; place = after; is_open = true })) (sym became)
-fits_step p size after Constraint h became fits = room _ _ fits ∙ ap (λ g. Ok (record { tally = g; place = after; is_open = true })) (sym became)
-fits_step p size after Move h became fits = room _ _ fits ∙ ap (λ g. Ok (record { tally = g; place = after; is_open = true })) (sym became)
+fits_step p size after (Heading n) h became fits = fits_ok _ _ fits ∙ ap (λ g. Ok (record { tally = g; place = after; is_open = true })) (sym became)
+fits_step p size after (Variable v) h became fits = fits_ok _ _ fits ∙ ap (λ g. Ok (record { tally = g; place = after; is_open = true })) (sym became)
+fits_step p size after Constraint h became fits = fits_ok _ _ fits ∙ ap (λ g. Ok (record { tally = g; place = after; is_open = true })) (sym became)
+fits_step p size after Move h became fits = fits_ok _ _ fits ∙ ap (λ g. Ok (record { tally = g; place = after; is_open = true })) (sym became)
 fits_step p size after End h became fits =
-    room (lies_in size after) _ (subst (λ n. lies_in size n ≡ true) (omega arith) fits) ∙ ap (λ g. Ok (record { tally = g; place = after; is_open = false })) (sym became)
+    fits_ok (lies_in size after) _ (subst (λ n. lies_in size n ≡ true) (omega arith) fits) ∙ ap (λ g. Ok (record { tally = g; place = after; is_open = false })) (sym became)
 
-no_room_step : (p : Pen) (size after : ℕ) (next : Next) → lies_in size (after + kept next) ≡ false → put_step p size after (next_step p.tally after next) ≡ Err NoRoom
-no_room_step p size after (Heading n) fits = no_room _ _ fits
-no_room_step p size after (Variable v) fits = no_room _ _ fits
-no_room_step p size after Constraint fits = no_room _ _ fits
-no_room_step p size after Move fits = no_room _ _ fits
-no_room_step p size after End fits = no_room (lies_in size after) _ (subst (λ n. lies_in size n ≡ false) (omega arith) fits)
+short_step : (p : Pen) (size after : ℕ) (next : Next) → lies_in size (after + kept next) ≡ false → put_step p size after (next_step p.tally after next) ≡ Err ShortBuffer
+short_step p size after (Heading n) fits = short _ _ fits
+short_step p size after (Variable v) fits = short _ _ fits
+short_step p size after Constraint fits = short _ _ fits
+short_step p size after Move fits = short _ _ fits
+short_step p size after End fits = short (lies_in size after) _ (subst (λ n. lies_in size n ≡ false) (omega arith) fits)
 
 -- at most one move more
 pub became_moves : (g h : Tally) (after : ℕ) (next : Next) → Became g (next_step g after next) h → h.moves ≤ g.moves + 1
@@ -66,5 +66,5 @@ module _ (p : Pen) (size long after : ℕ) (s : Shown) (is_open : p.is_open ≡ 
   put_fits next h last e judged became fits =
       by_step _ _ judged (fits_step p size after next h became fits ∙ ap (λ b. Ok (record { tally = h; place = after; is_open = not b })) (sym e))
 
-  pub put_no_room : (next : Next) → step p.tally s after ≡ next_step p.tally after next → lies_in size (after + kept next) ≡ false → put p size s long ≡ Err NoRoom
-  put_no_room next judged fits = by_step _ _ judged (no_room_step p size after next fits)
+  pub put_short : (next : Next) → step p.tally s after ≡ next_step p.tally after next → lies_in size (after + kept next) ≡ false → put p size s long ≡ Err ShortBuffer
+  put_short next judged fits = by_step _ _ judged (short_step p size after next fits)

@@ -2,7 +2,7 @@
 use Rattle.std.specs.Prelude.{◌≡◌, ℕ, ◌+◌, ◌/◌, ◌<◌, ◌≤◌, min, List, ◌++◌, length, Ok, Err, Result}
 use Rattle.sheet_format.specs.declared.found.Summary.{Summary}
 use Rattle.sheet_format.specs.declared.writing.WriteFault.{WriteFault}
-use Rattle.sheet_format.specs.declared.writing.WriteFault.TheVariants.{NoRoom}
+use Rattle.sheet_format.specs.declared.writing.WriteFault.TheVariants.{ShortBuffer}
 use Rattle.sheet_format.specs.Numbers.{number2}
 use Rattle.sheet_format.specs.Value.{table, add, retract}
 use Rattle.sheet_format.specs.Reading.{Shown, shows_heading, shows_variable, shows_sum, shows_table, shows_short_table, shows_add, shows_retract, shows_end}
@@ -58,7 +58,7 @@ pub record CutShort (sheet before buffer : List ℕ) : Type 0 where
 -- the answer to putting all records of an accepted sheet: its length, and it stands in the buffer; or there is no room
 abbrev pub Copied : List ℕ → List ℕ → List ℕ → Result ℕ WriteFault → Type 0
 Copied sheet before buffer (Ok place) = (place ≡ length sheet) × (length sheet ≤ length before) × (buffer ≡ laid 0 sheet before)
-Copied sheet before buffer (Err fault) = (fault ≡ NoRoom) × CutShort sheet before buffer
+Copied sheet before buffer (Err fault) = (fault ≡ ShortBuffer) × CutShort sheet before buffer
 
 -- The answer to rewriting any bytes: a refused sheet's fault, and the buffer is as it was; else the answer to putting all its records.
 abbrev pub Rewrites : List ℕ → List ℕ → List ℕ → Result ℕ RewriteFault → Type 0

@@ -5,3 +5,6 @@ pub mod Sums
 pub mod Sizes
 pub mod Copying
 pub mod Weighing
+pub mod Moves
+pub mod Text
+pub mod Calls

@@ -163,7 +163,7 @@ fn table_body(left: u8, right: u8, rows: &[u64]) -> ArrayVec<u8, 522>
 
 impl Writer {
     // A writer that has written nothing.
-    #[tactic(auto, using(sheet_law::proofs::Growing::nothing_written))]
+    #[tactic(auto, using(sheet_format::proofs::Growing::nothing_written))]
     pub fn new() -> Writer
         ensures call { result ≡ new_pen }
         ensures written { (xs : List ℕ) → Written nothing_begun result xs }
@@ -176,9 +176,9 @@ impl Writer {
     }
 
     // what a record of a kind would add to a sheet in so many bytes, judged as the check judges what the reader takes off, and the place after it
-    #[tactic(auto, using(crate::proofs::Putting::put_no_room))]
+    #[tactic(auto, using(crate::proofs::Putting::put_short))]
     fn judge(&self, size: usize, kind: Kind, body: &[u8]) -> Result<(Next, usize), WriteFault>
-        ensures room { Room self.now size (4 + length body.now) result }
+        ensures long { Room self.now size (4 + length body.now) result }
         ensures judged { (s : Shown) → shown (kind_number kind) body.now self.now.place ≡ Some s → Weighed self.now size s (4 + length body.now) result }
     {
         if !self.is_open {
@@ -189,7 +189,7 @@ impl Writer {
             .judge(record_of(kind, body, self.place as u32))?;
         let after = self.place + (4 + body.len());
         if !lies_in(size, after + next.kept()) {
-            return Err(WriteFault::NoRoom);
+            return Err(WriteFault::ShortBuffer);
         }
         Ok((next, after))
     }
@@ -207,7 +207,7 @@ impl Writer {
     }
 
     // Writes the heading: the start word 1, and how many variables follow. Like each call, it answers the place reached.
-    #[tactic(auto, using(crate::proofs::Entries::put_entry, sheet_law::proofs::Growing::grows))]
+    #[tactic(auto, using(crate::proofs::Entries::put_entry, sheet_format::proofs::Growing::grows))]
     pub fn heading(&mut self, buffer: &mut [u8], n: u16) -> Result<usize, WriteFault>
         ensures call { PutsEntry self.old buffer.old (heads n) self.new buffer.new result }
         ensures written { (b : Begun) → Written b self.old buffer.old → Grows b (heads n) self.new buffer.new result }
@@ -216,7 +216,7 @@ impl Writer {
     }
 
     // Writes a variable.
-    #[tactic(auto, using(crate::proofs::Entries::put_entry, sheet_law::proofs::Growing::grows))]
+    #[tactic(auto, using(crate::proofs::Entries::put_entry, sheet_format::proofs::Growing::grows))]
     pub fn variable(&mut self, buffer: &mut [u8], variable: Variable) -> Result<usize, WriteFault>
         ensures call { PutsEntry self.old buffer.old (has_variable variable) self.new buffer.new result }
         ensures written { (b : Begun) → Written b self.old buffer.old → Grows b (has_variable variable) self.new buffer.new result }
@@ -257,7 +257,7 @@ impl Writer {
     }
 
     // Writes a move that adds the constraint at an index.
-    #[tactic(auto, using(crate::proofs::Entries::put_entry, sheet_law::proofs::Growing::grows))]
+    #[tactic(auto, using(crate::proofs::Entries::put_entry, sheet_format::proofs::Growing::grows))]
     pub fn add(&mut self, buffer: &mut [u8], index: u16) -> Result<usize, WriteFault>
         ensures call { PutsEntry self.old buffer.old (has_move (add index)) self.new buffer.new result }
         ensures written { (b : Begun) → Written b self.old buffer.old → Grows b (has_move (add index)) self.new buffer.new result }
@@ -266,7 +266,7 @@ impl Writer {
     }
 
     // Writes a move that retracts the constraint at an index.
-    #[tactic(auto, using(crate::proofs::Entries::put_entry, sheet_law::proofs::Growing::grows))]
+    #[tactic(auto, using(crate::proofs::Entries::put_entry, sheet_format::proofs::Growing::grows))]
     pub fn retract(&mut self, buffer: &mut [u8], index: u16) -> Result<usize, WriteFault>
         ensures call { PutsEntry self.old buffer.old (has_move (retract index)) self.new buffer.new result }
         ensures written { (b : Begun) → Written b self.old buffer.old → Grows b (has_move (retract index)) self.new buffer.new result }
@@ -275,7 +275,7 @@ impl Writer {
     }
 
     // Writes the end. The sheet is whole, and the writer may be let go.
-    #[tactic(auto, using(crate::proofs::Entries::put_entry, sheet_law::proofs::Growing::grows))]
+    #[tactic(auto, using(crate::proofs::Entries::put_entry, sheet_format::proofs::Growing::grows))]
     pub fn end(&mut self, buffer: &mut [u8]) -> Result<usize, WriteFault>
         ensures call { PutsEntry self.old buffer.old ends_here self.new buffer.new result }
         ensures written { (b : Begun) → Written b self.old buffer.old → Grows b ends_here self.new buffer.new result }

@@ -2,3 +2,6 @@ mod ReadBack
 mod TableRows
 mod Terms
 mod Through
+mod Everyone
+mod Fitting
+mod Known

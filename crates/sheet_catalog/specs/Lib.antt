@@ -1,1 +1,3 @@
 pub mod Viewed
+pub mod Combined
+pub mod Sizes

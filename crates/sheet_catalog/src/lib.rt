@@ -1,16 +1,23 @@
-// The constraints of a sheet as a catalog that reads them straight from the sheet's bytes.
+// What a network needs of a sheet: its constraints as a catalog that reads them straight from the sheet's bytes, the numbering of its variables, their
+// sizes, and its constraints combined with those of the house.
 #![tactic(auto)]
 
 ghost use Rattle.std.specs.Prelude.{◌≡◌, ℕ, ◌<◌, ◌≤◌, length, slice_index};
-ghost use Rattle.sheet_meaning.specs.Meant.{meaning_of, sheet_in};
-ghost use Rattle.sheet_meaning.specs.Begun.{Begun};
-ghost use Rattle.sheet_meaning.proofs.Sheets.{bytes_lawful};
+ghost use Rattle.sheet_format.specs.Meant.{meaning_of, sheet_in};
+ghost use Rattle.sheet_format.specs.Begun.{Begun};
+ghost use Rattle.sheet_format.proofs.Lawfulness.{bytes_lawful};
 
 use catalog::Catalog;
 
+mod combining;
 pub mod making;
+pub mod numbers;
+pub mod sizes;
 mod starts;
+mod variables;
 mod view;
+
+pub use combining::{combined, combined_of};
 
 // The constraints of the sheet that the bytes hold, in the sheet's order; none where the check refuses the bytes. What a question needs is
 // read from the bytes at the place where its constraint begins, which is known from the start. The places are an array and a count: the public

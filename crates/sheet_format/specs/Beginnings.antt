@@ -59,5 +59,5 @@ begun_tally b =
     record { n = b.n; variables = b.variables; constraints = length b.constraints; moves = length b.moves; reached = length (bytes_begun (unmoved b)) }
 
 -- the sheet that a beginning says, if the end follows
-abbrev pub sheet_said : Begun → Sheet
-sheet_said b = record { variables = b.variables; constraints = b.constraints; moves = b.moves }
+abbrev pub begun_sheet : Begun → Sheet
+begun_sheet b = record { variables = b.variables; constraints = b.constraints; moves = b.moves }

@@ -31,7 +31,7 @@ pub record HeadingSays (body : List ℕ) : Type 0 where
   pub few : number2 body 2 ≤ 32
 
 -- a variable has 1 to 64 values
-pub record SizeSaid (size : ℕ) : Type 0 where
+pub record SizeGiven (size : ℕ) : Type 0 where
   pub some : 1 ≤ size
   pub few : size ≤ 64
 
@@ -49,12 +49,12 @@ pub record FormulaFits (m k lo hi : ℤ) : Type 0 where
   pub ordered : lo ≤ℤ hi
 
 -- the ends that a constraint's body begins with are two different variables
-abbrev pub EndsSaid : Begun → List ℕ → Type 0
-EndsSaid b body = ValidEnds b.n (slice_index body 0) (slice_index body 1)
+abbrev pub EndsGiven : Begun → List ℕ → Type 0
+EndsGiven b body = ValidEnds b.n (slice_index body 0) (slice_index body 1)
 
 -- the formula in a sum's body has such factors and limits
-abbrev pub FormulaSaid : List ℕ → Type 0
-FormulaSaid body = FormulaFits (to_z w16 (number2 body 2)) (to_z w16 (number2 body 4)) (to_z w32 (number4 body 6)) (to_z w32 (number4 body 10))
+abbrev pub FormulaGiven : List ℕ → Type 0
+FormulaGiven body = FormulaFits (to_z w16 (number2 body 2)) (to_z w16 (number2 body 4)) (to_z w32 (number4 body 6)) (to_z w32 (number4 body 10))
 
 -- how many values the ends of a table have
 abbrev pub left_size : Begun → List ℕ → ℕ
@@ -83,14 +83,14 @@ rules b Heading body = rule OutOfTurn (b.n ≡ 0) ∷ (rule WrongLength (length 
 rules b Variable body =
     rule OutOfTurn (length b.variables < b.n)
     ∷ (rule WrongLength (length body ≡ 4)
-    ∷ (rule BadSize (SizeSaid (number2 body 0)) ∷ (rule BadHouse (HouseFree b (number2 body 2)) ∷ [])))
+    ∷ (rule BadSize (SizeGiven (number2 body 0)) ∷ (rule BadHouse (HouseFree b (number2 body 2)) ∷ [])))
 rules b Sum body =
     constraint_rules b
-    (rule WrongLength (length body ≡ 14) ∷ (rule BadEnds (EndsSaid b body) ∷ (rule BadSum (FormulaSaid body) ∷ [])))
+    (rule WrongLength (length body ≡ 14) ∷ (rule BadEnds (EndsGiven b body) ∷ (rule BadSum (FormulaGiven body) ∷ [])))
 rules b Table body =
     constraint_rules b
     (rule WrongLength (2 ≤ length body)
-    ∷ (rule BadEnds (EndsSaid b body)
+    ∷ (rule BadEnds (EndsGiven b body)
     ∷ (rule WrongLength (length body ≡ 2 + 8 * left_size b body) ∷ (rule BadRow (RowsFit b body) ∷ []))))
 rules b Add body = rule OutOfTurn (AllThere b) ∷ (rule WrongLength (length body ≡ 2) ∷ [])
 rules b Retract body = rule OutOfTurn (AllThere b) ∷ (rule WrongLength (length body ≡ 2) ∷ [])

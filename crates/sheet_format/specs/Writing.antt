@@ -2,7 +2,7 @@
 use Rattle.std.specs.Prelude.{◌≡◌, ℕ, ◌+◌, Bool, true, false, cond, not, ◌&&◌, List, ◌++◌, length, take, drop, Some, Ok, Err, Result, nat_lt}
 use Rattle.sheet_format.specs.declared.found.Variable.{Variable}
 use Rattle.sheet_format.specs.declared.writing.WriteFault.{WriteFault}
-use Rattle.sheet_format.specs.declared.writing.WriteFault.TheVariants.{Format, NoRoom, Closed}
+use Rattle.sheet_format.specs.declared.writing.WriteFault.TheVariants.{Format, ShortBuffer, Closed}
 use Rattle.sheet_format.specs.Value.{Constraint, Move}
 use Rattle.sheet_format.specs.Encoding.{Raw, framed, heading_record, variable_record, constraint_record, move_record, end_record}
 use Rattle.sheet_format.specs.Reading.{Shown, shown}
@@ -11,7 +11,7 @@ use Rattle.sheet_format.specs.Faults.{cause_number}
 
 abbrev pub write_number : WriteFault → ℕ
 write_number (Format cause) = cause_number cause
-write_number NoRoom = 42
+write_number ShortBuffer = 42
 write_number Closed = 43
 
 -- one entry of a sheet
@@ -50,9 +50,9 @@ lies_in size after = not (nat_lt size after) && not (nat_lt 65535 after)
 -- A record that ends before the place `after`, by the check's step. One that is not the end leaves room for the four bytes of the end.
 abbrev pub put_step : Pen → ℕ → ℕ → Step → Result Pen WriteFault
 put_step p size after (goes g) =
-    cond (lies_in size (after + 4)) (Ok (record { tally = g; place = after; is_open = true })) (Err NoRoom)
+    cond (lies_in size (after + 4)) (Ok (record { tally = g; place = after; is_open = true })) (Err ShortBuffer)
 put_step p size after ends =
-    cond (lies_in size after) (Ok (record { tally = p.tally; place = after; is_open = false })) (Err NoRoom)
+    cond (lies_in size after) (Ok (record { tally = p.tally; place = after; is_open = false })) (Err ShortBuffer)
 put_step p size after (stops cause) = Err (Format cause)
 
 -- the writer after a record of so many bytes is put into a buffer of a size, or why it is refused

@@ -3,7 +3,7 @@ use Rattle.std.specs.Prelude.{◌≡◌, ℕ, List, [], ◌∷◌, ◌++◌, len
 use Rattle.sheet_format.specs.declared.writing.WriteFault.{WriteFault}
 use Rattle.sheet_format.specs.Encoding.{encode, Valid}
 use Rattle.sheet_format.specs.Decoding.{decode}
-use Rattle.sheet_format.specs.Beginnings.{Begun, bytes_begun, Keeps, begun_tally, sheet_said}
+use Rattle.sheet_format.specs.Beginnings.{Begun, bytes_begun, Keeps, begun_tally, begun_sheet}
 use Rattle.sheet_format.specs.Verdict.{verdict}
 use Rattle.sheet_format.specs.Law.{summary_of}
 use Rattle.sheet_format.specs.Writing.{Entry, heads, has_variable, has_constraint, has_move, ends_here, Pen}
@@ -26,10 +26,10 @@ pub record Written (b : Begun) (p : Pen) (buffer : List ℕ) : Type 0 where
 
 -- The bytes before a place are the sheet that this beginning is with the end after it: the check accepts them, and they read back as that sheet.
 pub record Whole (b : Begun) (place : ℕ) (buffer : List ℕ) : Type 0 where
-  pub valid : Valid (sheet_said b)
-  pub bytes : take place buffer ≡ encode (sheet_said b)
-  pub accepted : verdict (take place buffer) ≡ Ok (summary_of (sheet_said b))
-  pub back : decode (take place buffer) ≡ sheet_said b
+  pub valid : Valid (begun_sheet b)
+  pub bytes : take place buffer ≡ encode (begun_sheet b)
+  pub accepted : verdict (take place buffer) ≡ Ok (summary_of (begun_sheet b))
+  pub back : decode (take place buffer) ≡ begun_sheet b
 
 -- what is written after an entry was put where this beginning was written: one entry more, or the whole sheet
 abbrev pub Grown : Begun → Entry → Pen → List ℕ → ℕ → Type 0

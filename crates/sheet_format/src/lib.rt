@@ -4,6 +4,7 @@
 mod faults;
 mod found;
 mod kinds;
+mod lines;
 mod numbers;
 mod writing;
 
@@ -12,5 +13,6 @@ pub use faults::{
 };
 pub use found::{Summary, Variable};
 pub use kinds::Kind;
+pub use lines::{accepted_line, fault_line};
 pub use numbers::{long, row, word};
 pub use writing::WriteFault;

@@ -10,7 +10,7 @@ use crate::faults::Cause;
 #[derive(Clone, Copy, PartialEq, Eq, Debug)]
 pub enum WriteFault {
     Format(Cause),
-    NoRoom,
+    ShortBuffer,
     Closed,
 }
 
@@ -21,7 +21,7 @@ impl WriteFault {
     {
         match self {
             WriteFault::Format(cause) => cause.number(),
-            WriteFault::NoRoom => 42,
+            WriteFault::ShortBuffer => 42,
             WriteFault::Closed => 43,
         }
     }

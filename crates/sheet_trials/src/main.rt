@@ -10,10 +10,10 @@ use mixed::MIXED;
 use outcome::made;
 use sheet::Accepted;
 use sheet_catalog::SheetCatalog;
-use sheet_moves::{Move, moves_of};
-use sheet_pile::pile_of;
-use sheet_pile::sizes::Sizes;
-use sheet_samples::chain_sheet;
+use sheet::{Move, moves_of};
+use sheet_catalog::combined_of;
+use sheet_catalog::sizes::Sizes;
+use samples::chain_sheet;
 use std::io;
 
 // A sheet, and the sizes of its variables in its own order.
@@ -37,14 +37,14 @@ fn make_moves<C: Catalog>(
     }
 }
 
-// Makes a sheet's moves on its own constraints alone, and on the pile of these and the house's.
+// Makes a sheet's moves on its own constraints alone, and on the combined catalog of these and the house's.
 fn perform(rt: &HostRuntime, case: Case<'_>, sheet: &Accepted<'_>) -> io::Result<()> {
     let Case { name, sizes, .. } = case;
     let moves = moves_of(rt.alloc(), sheet)?;
     println!(rt; "{name}, its own constraints")?;
     make_moves(rt, &SheetCatalog::of(sheet), sizes, &moves)?;
-    println!(rt; "{name}, the pile")?;
-    make_moves(rt, &pile_of(sheet), Sizes::of(sheet).as_slice(), &moves)
+    println!(rt; "{name}, the combined")?;
+    make_moves(rt, &combined_of(sheet), Sizes::of(sheet).as_slice(), &moves)
 }
 
 fn main(rt: HostRuntime) -> io::Result<()> {

@@ -8,7 +8,7 @@
 // has 3 in its row, and beside 1 the sum asks for 4 or 5: all ten that were left go, and 0 is wiped out. Retracting 0 gives 0 and 1, then 0, 1 and 2, then 1 and 3 back:
 // seven, which go when 0 is added again. Retracting 1 gives 0, 1 and 2 back, then 3, 4 and 5, then 1, 3 and 4: nine.
 //
-// On the pile, index 3 is the house's first constraint, by which a value of variable 2 is at most that of 1. Adding it leaves 0, 1 and 1: four go, and the
+// On the combined catalog, index 3 is the house's first constraint, by which a value of variable 2 is at most that of 1. Adding it leaves 0, 1 and 1: four go, and the
 // last three when 0 is added again. Index 5 ties variables that the sheet does not have, so that adding it is refused by 4 and not by 3.
 pub const MIXED: [u8; 192] = [
     // heading: three variables

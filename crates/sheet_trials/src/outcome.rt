@@ -2,11 +2,11 @@
 use catalog::Catalog;
 use judging::book::Call;
 use judging::trouble::Trouble;
-use network_law::Change;
-use parties::both::Both;
-use refusal::Refusal;
-use run_text::domain_line;
-use sheet_moves::Move;
+use network::Change;
+use trial::both::Both;
+use catalog::refusal::Refusal;
+use runner::domain_line;
+use sheet::Move;
 use std::alloc::Global;
 use std::io;
 

@@ -4,7 +4,7 @@ ghost use Rattle.scratch.specs.Named.{named};
 ghost use Rattle.sheetpile.specs.Counts.{beside_count, pair_count, is_inside};
 
 use catalog::Catalog;
-use refusal::checks::check_constraint;
+use catalog::checks::check_constraint;
 use std::alloc::{AllocError, Global};
 
 // how many values below the size the constraint p allows beside x

@@ -1,4 +1,4 @@
-// For those who write sheets. Reads a sheet from standard input and prints, for the pile of its constraints and the house's: a line for each
+// For those who write sheets. Reads a sheet from standard input and prints, for the combined catalog of its constraints and the house's: a line for each
 // constraint with its index, its ends and how many pairs inside the sizes it allows, or `outside` where an end is none of the sheet's variables;
 // then the largest domains with all the constraints in that are not outside. A refused sheet prints its fault only.
 #![tactic(auto)]
@@ -7,12 +7,12 @@ mod counting;
 
 use catalog::Catalog;
 use counting::{inside, pairs};
-use refusal::checks::check_constraint;
-use run_text::domain_line;
+use catalog::checks::check_constraint;
+use runner::domain_line;
 use scratch::largest_domains;
 use sheet::Accepted;
-use sheet_pile::pile_of;
-use sheet_pile::sizes::Sizes;
+use sheet_catalog::combined_of;
+use sheet_catalog::sizes::Sizes;
 use std::io;
 use std::io::Read;
 
@@ -49,7 +49,7 @@ fn main(rt: HostRuntime) -> anyhow::Result<()> {
     rt.stdin().read_to_end(&mut bytes)?;
     match Accepted::new(&bytes) {
         Ok(sheet) => {
-            let catalog = pile_of(&sheet);
+            let catalog = combined_of(&sheet);
             let sizes = Sizes::of(&sheet);
             print_constraints(&rt, &catalog, sizes.as_slice())?;
             print_domains(&rt, &catalog, sizes.as_slice())

@@ -1,9 +1,10 @@
 // The supports of values: for each value of one end of a constraint, the set of the values of the other end that may stand beside it.
 #![tactic(auto)]
 
-ghost use Rattle.std.specs.Prelude.{◌≡◌, ℕ, ◌&&◌, nat_lt, slice_index};
-ghost use Rattle.bits.specs.Bits.{has_bit};
+ghost use Rattle.std.specs.Prelude.{◌≡◌, ℕ, ◌&&◌, nat_lt, slice_index, length};
+ghost use Rattle.bits.specs.Bits.{has_bit, domains_of};
 ghost use Rattle.catalog.specs.Meaning.{allowed};
+ghost use Rattle.arcs.specs.WipedOut.{WipedOut};
 
 use catalog::Catalog;
 
@@ -61,4 +62,12 @@ pub fn turned(rows: &[u64; 64]) -> [u64; 64]
         *entry = column(rows, y);
     }
     turned
+}
+
+// The lowest variable whose domain is empty, if there is one.
+#[tactic(auto, using(crate::proofs::Emptiness::none_in, crate::proofs::Emptiness::one_in))]
+pub fn wiped_out(domains: &[u64]) -> Option<usize>
+    ensures { WipedOut (domains_of domains.now) (length domains.now) result }
+{
+    domains.iter().position(|domain| *domain == 0)
 }

@@ -5,15 +5,15 @@ use judging::book::{Book, Call, may_open};
 use judging::expected;
 use judging::judge::Judge;
 use judging::met::Met;
-use judging::told::Told;
+use judging::reported::Reported;
 use judging::trouble::Trouble;
-use network_law::Change;
-use parties::checks::{check_answer, check_done, check_unasked};
-use parties::first::First;
-use parties::second::Second;
-use refusal::Refusal;
+use network::Change;
+use crate::checks::{check_answer, check_done, check_unasked};
+use crate::first::First;
+use crate::second::Second;
+use catalog::refusal::Refusal;
 use std::alloc::Global;
-use wiped::wiped_out;
+use supports::wiped_out;
 
 // After an opening: the book that the trials keep, what stood after the last call by the computation from scratch and by the network, and the
 // second solver.
@@ -21,7 +21,7 @@ use wiped::wiped_out;
 struct Parties<'a, C> {
     book: Book,
     domains: Vec<u64>,
-    told: Told,
+    reported: LawOf,
     second: Second<'a, C>,
 }
 
@@ -29,7 +29,7 @@ struct Parties<'a, C> {
 fn check_kept<C: Catalog>(
     heap: Global,
     before: &Judge<'_, C>,
-    after: &Told,
+    after: &LawOf,
     retracted: Option<usize>,
 ) -> Result<(), Trouble> {
     let resting = before.resting_on(heap, retracted)?;
@@ -50,27 +50,27 @@ struct Trial<'a, C> {
 }
 
 impl<'a, C: Catalog> Trial<'a, C> {
-    // What was told, to be judged by the book.
-    fn judge<'b>(&self, book: &'b Book, told: &'b Told) -> Judge<'b, C>
+    // What was reported, to be judged by the book.
+    fn judge<'b>(&self, book: &'b Book, reported: &'b Reported) -> Judge<'b, C>
     where
         'a: 'b,
     {
         Judge {
             catalog: self.catalog,
             book,
-            told,
+            reported,
         }
     }
 
     // Does the network tell the domains from scratch, with every value that is out justified?
     fn check_first(&self, parties: &Parties<'a, C>) -> Result<(), Trouble> {
-        if !parties.told.has_domains(&parties.domains) {
+        if !parties.reported.has_domains(&parties.domains) {
             return Err(Trouble::Domains);
         }
         if self.first.wiped_out() != wiped_out(&parties.domains) {
             return Err(Trouble::WipedOut);
         }
-        let judge = self.judge(&parties.book, &parties.told);
+        let judge = self.judge(&parties.book, &parties.reported);
         if !judge.justified() {
             return Err(Trouble::Justification);
         }
@@ -82,11 +82,11 @@ impl<'a, C: Catalog> Trial<'a, C> {
 
     // Does the second solver tell the domains from scratch, with every value that is out justified?
     fn check_second(&self, parties: &Parties<'a, C>) -> Result<(), Trouble> {
-        let told = parties.second.tell(self.draws.heap, &parties.book)?;
-        if !told.has_domains(&parties.domains) {
+        let reported = parties.second.tell(self.draws.heap, &parties.book)?;
+        if !reported.has_domains(&parties.domains) {
             return Err(Trouble::SecondDomains);
         }
-        if !self.judge(&parties.book, &told).justified() {
+        if !self.judge(&parties.book, &reported).justified() {
             return Err(Trouble::SecondJustification);
         }
         Ok(())
@@ -108,7 +108,7 @@ impl<'a, C: Catalog> Trial<'a, C> {
         let book = Book::open(heap, sizes, time)?;
         let parties = Parties {
             domains: expected::domains(heap, self.catalog, &book)?,
-            told: self.first.tell(heap, &book)?,
+            reported: self.first.tell(heap, &book)?,
             book,
             second,
         };
@@ -116,17 +116,17 @@ impl<'a, C: Catalog> Trial<'a, C> {
         Ok(parties)
     }
 
-    // What the network told after a call replaces what it told before, of which nothing may be lost but what rests on what was retracted.
-    fn replace_told(
+    // What the network reported after a call replaces what it reported before, of which nothing may be lost but what rests on what was retracted.
+    fn replace_reported(
         &self,
         parties: &mut Parties<'a, C>,
         retracted: Option<usize>,
     ) -> Result<(), Trouble> {
         let heap = self.draws.heap;
-        let told = self.first.tell(heap, &parties.book)?;
-        let before = self.judge(&parties.book, &parties.told);
-        check_kept(heap, &before, &told, retracted)?;
-        parties.told = told;
+        let reported = self.first.tell(heap, &parties.book)?;
+        let before = self.judge(&parties.book, &parties.reported);
+        check_kept(heap, &before, &reported, retracted)?;
+        parties.reported = reported;
         Ok(())
     }
 
@@ -150,7 +150,7 @@ impl<'a, C: Catalog> Trial<'a, C> {
             Call::Retract(p) if due.is_ok() => Some(p),
             _ => None,
         };
-        self.replace_told(parties, retracted)?;
+        self.replace_reported(parties, retracted)?;
         if let Ok(change) = answer {
             parties.book.note(call, change.values);
         }
@@ -173,7 +173,7 @@ impl<'a, C: Catalog> Trial<'a, C> {
         if due.is_ok() || self.first.open(&sizes, time) != due {
             return Err(Trouble::OtherCause);
         }
-        self.replace_told(parties, None)?;
+        self.replace_reported(parties, None)?;
         self.check_first(parties)
     }
 

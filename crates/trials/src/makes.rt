@@ -75,11 +75,11 @@ fn joined(draws: Draws<'_>) -> Result<Met, Trouble> {
 
 // A ladder that with the house constraints passes 128.
 fn ladder(draws: Draws<'_>) -> Result<Met, Trouble> {
-    let pile = Joined {
-        first: Ladder { rungs: 126 },
+    let combined = Joined {
+        first: Ladder { count: 126 },
         second: HouseCatalog,
     };
-    list(draws, &pile)
+    list(draws, &combined)
 }
 
 fn house(draws: Draws<'_>) -> Result<Met, Trouble> {

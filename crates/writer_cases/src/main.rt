@@ -7,7 +7,7 @@
 use anyhow::{Context, anyhow};
 use sheet::{Formula, check, rewrite};
 use sheet_format::{Variable, WriteFault};
-use sheet_writer::{Call, write};
+use sheet::{Call, write};
 use std::alloc::Global;
 use std::io::{BufRead, BufReader};
 

@@ -19,8 +19,8 @@ fn count(d: &Domains) -> u32
 
 impl Engine {
     // May the constraint go in, with so much room?
-    fn can_add(&self, constraint: usize, room: usize) -> bool
-        ensures { result ≡ can_add self.now.constraints self.now.domains constraint room }
+    fn can_add(&self, constraint: usize, waiting: usize) -> bool
+        ensures { result ≡ can_add self.now.constraints self.now.domains constraint waiting }
     {
         if constraint >= 128 {
             return false;
@@ -29,17 +29,17 @@ impl Engine {
         if self.constraints.present[constraint] || left == right {
             return false;
         }
-        room >= 128 && !is_spent(self.domains.clock)
+        waiting >= 128 && !is_spent(self.domains.clock)
     }
 
     // May it go out?
-    fn can_retract(&self, constraint: usize, room: usize, returning: usize) -> bool
-        ensures { result ≡ can_retract self.now.constraints self.now.domains constraint room returning }
+    fn can_retract(&self, constraint: usize, waiting: usize, returning: usize) -> bool
+        ensures { result ≡ can_retract self.now.constraints self.now.domains constraint waiting returning }
     {
         if constraint >= 128 || !self.constraints.present[constraint] {
             return false;
         }
-        room >= 128 && returning >= 2048 && !is_spent(self.domains.clock)
+        waiting >= 128 && returning >= 2048 && !is_spent(self.domains.clock)
     }
 
     // Puts the constraint in and says how many values went out, or nothing where it cannot go in.
@@ -52,7 +52,7 @@ impl Engine {
             return None;
         }
         let before = self.domains.clock;
-        self.put_in(constraint, waiting);
+        self.insert(constraint, waiting);
         Some(self.domains.clock - before)
     }
 
@@ -72,7 +72,7 @@ impl Engine {
             return None;
         }
         let before = count(&self.domains);
-        self.take_out(constraint, waiting, returning);
+        self.remove(constraint, waiting, returning);
         Some(count(&self.domains) - before)
     }
 }

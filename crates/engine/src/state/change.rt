@@ -1,8 +1,8 @@
 // A constraint goes in or out, and the domains follow.
 ghost use Rattle.std.specs.Prelude.{◌≡◌, ℕ, ◌+◌, ◌<◌, ◌≤◌, true, false, length, ◌≢◌, slice_index, slice_index_or};
 ghost use Rattle.arcs.specs.Family.{Inside};
-ghost use Rattle.justify.specs.Changes.{Dated, Released, Same};
-ghost use Rattle.justify.specs.Standing.{Out, Rests};
+ghost use Rattle.arcs.specs.Changes.{Dated, Released, Same};
+ghost use Rattle.arcs.specs.Standing.{Out, Rests};
 ghost use Rattle.queue.specs.Waiting.{Kept};
 ghost use Rattle.domains.specs.Model.{arcs_of, left_of, reason_is, right_of, shown, standing, within};
 ghost use Rattle.domains.specs.Sound.{Rose, Went};
@@ -35,11 +35,11 @@ fn enqueue_changed(
     }
 }
 
-// Puts back what rests on the constraint, by way of the lent room. No method of an engine: constraints and domains do not stand together after it.
+// Puts back what rests on the constraint, by way of the lent buffer. No method of an engine: constraints and domains do not stand together after it.
 fn release_through(c: &Constraints, d: &mut Domains, returning: &mut [Returning], constraint: usize)
     requires low { constraint < 128 }
     requires stands { Stands c.now d.old }
-    requires room { 2048 ≤ length returning.old }
+    requires long { 2048 ≤ length returning.old }
     ensures released { Released (arcs_of c.now) (within c.now) (reason_is constraint) (standing d.old) (standing d.new) }
     ensures inside { Inside (within c.now) (shown d.new) }
     ensures clock { d.new.clock ≡ d.old.clock }
@@ -51,11 +51,11 @@ fn release_through(c: &Constraints, d: &mut Domains, returning: &mut [Returning]
 
 impl Engine {
     // Puts the constraint in, and out what it leaves without support.
-    pub(super) fn put_in(&mut self, constraint: usize, waiting: &mut [u8])
+    pub(super) fn insert(&mut self, constraint: usize, waiting: &mut [u8])
         requires low { constraint < 128 }
         requires apart { left_of self.old.constraints constraint ≢ right_of self.old.constraints constraint }
         requires time { self.old.domains.clock ≤ last_time }
-        requires room { 128 ≤ length waiting.old }
+        requires long { 128 ≤ length waiting.old }
         ensures present { self.new.constraints ≡ with_present self.old.constraints constraint true }
         ensures went { Went self.new.constraints self.old.domains self.new.domains }
         ensures past { Past 128 waiting.old waiting.new }
@@ -72,7 +72,7 @@ impl Engine {
     }
 
     // Takes the constraint out, puts back what rests on it, and out again what is still without support.
-    pub(super) fn take_out(
+    pub(super) fn remove(
         &mut self,
         constraint: usize,
         waiting: &mut [u8],
@@ -80,7 +80,7 @@ impl Engine {
     )
         requires low { constraint < 128 }
         requires time { self.old.domains.clock ≤ last_time }
-        requires room { 128 ≤ length waiting.old }
+        requires long { 128 ≤ length waiting.old }
         requires returns { 2048 ≤ length returning.old }
         ensures absent { self.new.constraints ≡ with_present self.old.constraints constraint false }
         ensures kept { (i x : ℕ) → Out (within self.old.constraints) (standing self.old.domains) i x → (Rests (arcs_of self.old.constraints) (within self.old.constraints) (standing self.old.domains) (reason_is constraint) i x → ⊥) → Same (standing self.old.domains) (standing self.new.domains) i x }

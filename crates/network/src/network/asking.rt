@@ -2,15 +2,15 @@
 ghost use Rattle.std.specs.Prelude.{◌≡◌};
 ghost use Rattle.arcs.specs.WipedOut.{WipedOut};
 ghost use Rattle.domains.specs.Model.{shown};
-ghost use Rattle.network_law.specs.Calls.{asks_domain, asks_justification, asks_shown, asks_wiped};
-ghost use Rattle.network_law.specs.declared.Answer.TheVariants.{Domain, Justified, Shown, Wiped};
+ghost use Rattle.network.specs.Calls.{asks_domain, asks_justification, asks_shown, asks_wiped};
+ghost use Rattle.network.specs.declared.law.Answer.TheVariants.{Domain, Justified, Shown, Wiped};
 ghost use Rattle.network.specs.Served.{Serves};
-ghost use Rattle.network_model.specs.Performs.{answer_by};
+ghost use Rattle.network.specs.Performs.{answer_by};
 
 use super::Network;
 use catalog::Catalog;
 use domains::Justification;
-use refusal::Refusal;
+use catalog::refusal::Refusal;
 
 impl<C: Catalog> Network<C> {
     // The values of the variable that are shown: bit x for the value x.

@@ -1,4 +1,4 @@
-// Constraints go in and out. The two rooms are two parameters, since the public calls take them so, and the engine's calls, of which
+// Constraints go in and out. The two buffers are two parameters, since the public calls take them so, and the engine's calls, of which
 // adding takes the first alone. That the catalog stays is said by each call: it is what the call leaves, and
 // no fact of a value that a type could hold.
 ghost use Rattle.std.specs.Prelude.{◌≡◌, false, length, IfOk, MatchResult, OnErr};
@@ -6,21 +6,21 @@ ghost use Rattle.arcs.specs.WipedOut.{WipedOut};
 ghost use Rattle.domains.specs.Model.{shown};
 ghost use Rattle.domains.specs.Stands.{Past};
 ghost use Rattle.engine.specs.Calls.{Added, Retracted, can_add, can_retract};
-ghost use Rattle.network_law.specs.Calls.{adds, retracts};
-ghost use Rattle.network_law.specs.declared.Answer.TheVariants.{Changed};
+ghost use Rattle.network.specs.Calls.{adds, retracts};
+ghost use Rattle.network.specs.declared.law.Answer.TheVariants.{Changed};
 ghost use Rattle.network.specs.Served.{ServesLent, Stands};
-ghost use Rattle.network_model.specs.Performs.{answer_by, buffers, rooms_of};
+ghost use Rattle.network.specs.Performs.{answer_by, buffers, lengths_of};
 
 use super::Network;
 use super::checks::Lengths;
 use catalog::Catalog;
 use domains::Returning;
-use network_law::Change;
-use refusal::Refusal;
+use crate::law::Change;
+use catalog::refusal::Refusal;
 
 impl<C: Catalog> Network<C> {
     // Puts a known constraint in.
-    fn put_in(&mut self, constraint: usize, waiting: &mut [u8]) -> Result<Change, Refusal>
+    fn insert(&mut self, constraint: usize, waiting: &mut [u8]) -> Result<Change, Refusal>
         ensures catalog { self.new.catalog ≡ self.old.catalog }
         ensures added { MatchResult result (λ v. Added self.old.state.engine.constraints self.new.state.engine.constraints self.old.state.engine.domains self.new.state.engine.domains constraint v.values) (λ _. can_add self.old.state.engine.constraints self.old.state.engine.domains constraint (length waiting.old) ≡ false) }
         ensures wiped { IfOk result (λ v. WipedOut (shown self.new.state.engine.domains) self.old.state.variables v.wiped) }
@@ -38,7 +38,7 @@ impl<C: Catalog> Network<C> {
     }
 
     // Takes a constraint out that is in.
-    fn take_out(
+    fn remove(
         &mut self,
         constraint: usize,
         waiting: &mut [u8],
@@ -69,7 +69,7 @@ impl<C: Catalog> Network<C> {
         returning: &mut [Returning],
     ) -> Result<Change, Refusal>
         ensures catalog { self.new.catalog ≡ self.old.catalog }
-        ensures performs { ServesLent C.Catalog.meaning self.old (buffers waiting.old returning.old) (adds constraint (rooms_of waiting.old returning.old)) (answer_by Changed result) self.new (buffers waiting.new returning.new) }
+        ensures performs { ServesLent C.Catalog.meaning self.old (buffers waiting.old returning.old) (adds constraint (lengths_of waiting.old returning.old)) (answer_by Changed result) self.new (buffers waiting.new returning.new) }
         ensures past { Past 128 waiting.old waiting.new }
         ensures returning { returning.new ≡ returning.old }
         ensures refused { Stands C.Catalog.meaning self.old → OnErr result (self.new.state ≡ self.old.state) }
@@ -81,7 +81,7 @@ impl<C: Catalog> Network<C> {
         };
         let (left, right) = self.check_add(constraint, lengths)?;
         self.know(constraint, left, right);
-        self.put_in(constraint, waiting)
+        self.insert(constraint, waiting)
     }
 
     // Retracts the constraint: says how many values came back, and the wiped-out variable.
@@ -92,7 +92,7 @@ impl<C: Catalog> Network<C> {
         returning: &mut [Returning],
     ) -> Result<Change, Refusal>
         ensures catalog { self.new.catalog ≡ self.old.catalog }
-        ensures performs { ServesLent C.Catalog.meaning self.old (buffers waiting.old returning.old) (retracts constraint (rooms_of waiting.old returning.old)) (answer_by Changed result) self.new (buffers waiting.new returning.new) }
+        ensures performs { ServesLent C.Catalog.meaning self.old (buffers waiting.old returning.old) (retracts constraint (lengths_of waiting.old returning.old)) (answer_by Changed result) self.new (buffers waiting.new returning.new) }
         ensures past { Past 128 waiting.old waiting.new }
         ensures past_returning { Past 2048 returning.old returning.new }
         ensures refused { Stands C.Catalog.meaning self.old → OnErr result (self.new.state ≡ self.old.state) }
@@ -104,6 +104,6 @@ impl<C: Catalog> Network<C> {
             returning: returning.len(),
         };
         self.check_retract(constraint, lengths)?;
-        self.take_out(constraint, waiting, returning)
+        self.remove(constraint, waiting, returning)
     }
 }

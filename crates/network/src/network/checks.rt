@@ -1,17 +1,17 @@
 // Whether a call may be answered.
 ghost use Rattle.std.specs.Prelude.{◌≡◌, IfOk, Some, nat_lt};
 ghost use Rattle.catalog.specs.Meaning.{ends_of};
-ghost use Rattle.network_law.specs.Refusals.{lent_refusal, spent};
-ghost use Rattle.network_model.specs.Performs.{add_cause, retract_cause, value_cause};
+ghost use Rattle.network.specs.Refusals.{lent_refusal, spent};
+ghost use Rattle.network.specs.Performs.{add_cause, retract_cause, value_cause};
 ghost use Rattle.std.specs.Result.{result_err};
 
 use super::Network;
 use catalog::Catalog;
 use domains::is_spent;
-use refusal::Refusal;
-use refusal::checks::check_constraint;
+use catalog::refusal::Refusal;
+use catalog::checks::check_constraint;
 
-// How long the lent rooms are.
+// How long the lent buffers are.
 #[derive(Clone, Copy)]
 pub(super) struct Lengths {
     pub waiting: usize,

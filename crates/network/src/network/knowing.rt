@@ -4,7 +4,7 @@ ghost use Rattle.bits.specs.Bits.{has_bit};
 ghost use Rattle.catalog.specs.Meaning.{allowed, ends_of};
 ghost use Rattle.domains.specs.Model.{is_present, within};
 ghost use Rattle.network.specs.Served.{Stands};
-ghost use Rattle.network_model.specs.Performs.{Learnt};
+ghost use Rattle.network.specs.Performs.{Learnt};
 
 use super::Network;
 use catalog::Catalog;

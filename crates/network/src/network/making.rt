@@ -2,20 +2,20 @@
 ghost use Rattle.std.specs.Prelude.{◌≡◌, ℕ, ◌<◌, ◌≤◌, false, None, length, replicate, slice_index, IfOk, OnErr};
 ghost use Rattle.domains.specs.Make.{no_constraints, no_domains};
 ghost use Rattle.std.specs.Result.{result_err};
-ghost use Rattle.network_law.specs.Calls.{opens};
-ghost use Rattle.network_law.specs.Moment.{Blank, Right};
-ghost use Rattle.network_law.specs.declared.Answer.TheVariants.{Opened};
-ghost use Rattle.network_model.specs.Model.{moment_of};
+ghost use Rattle.network.specs.Calls.{opens};
+ghost use Rattle.network.specs.Moment.{Blank, Right};
+ghost use Rattle.network.specs.declared.law.Answer.TheVariants.{Opened};
+ghost use Rattle.network.specs.Model.{moment_of};
 ghost use Rattle.network.specs.Served.{Serves, Stands};
-ghost use Rattle.network_model.specs.Performs.{answer_by};
-ghost use Rattle.refusal.specs.Causes.{sizes_refusal};
+ghost use Rattle.network.specs.Performs.{answer_by};
+ghost use Rattle.catalog.specs.Causes.{sizes_refusal};
 
 use super::Network;
 use catalog::Catalog;
 use engine::Engine;
-use network_model::State;
-use refusal::Refusal;
-use refusal::checks::check_sizes;
+use crate::state::State;
+use catalog::refusal::Refusal;
+use catalog::checks::check_sizes;
 use std::array;
 
 // The size of the variable i as a byte, 0 where there is no such variable.

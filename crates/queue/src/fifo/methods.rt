@@ -4,26 +4,26 @@ ghost use Rattle.queue.specs.Waiting.{Kept, Over, waits};
 use super::Queue;
 
 impl<'a, T: Copy> Queue<'a, T> {
-    // An empty queue over the room, for at most `limit` entries and no more than the room has.
-    pub fn new(room: &'a mut [T], limit: usize) -> Queue<'a, T>
+    // An empty queue over the buffer, for at most `limit` entries and no more than the buffer has.
+    pub fn new(buffer: &'a mut [T], limit: usize) -> Queue<'a, T>
         ensures waiting { waits result ≡ [] }
         ensures len { result.len ≡ 0 }
-        ensures limit { result.limit ≡ min limit (length room.old) }
-        ensures over { Over result room.entry }
+        ensures limit { result.limit ≡ min limit (length buffer.old) }
+        ensures over { Over result buffer.entry }
     {
-        let limit = limit.min(room.len());
-        Queue::empty(room, limit)
+        let limit = limit.min(buffer.len());
+        Queue::empty(buffer, limit)
     }
 
-    fn empty(room: &'a mut [T], limit: usize) -> Queue<'a, T>
-        requires { limit ≤ length room.old }
+    fn empty(buffer: &'a mut [T], limit: usize) -> Queue<'a, T>
+        requires { limit ≤ length buffer.old }
         ensures waiting { waits result ≡ [] }
         ensures len { result.len ≡ 0 }
         ensures limit { result.limit ≡ limit }
-        ensures over { Over result room.entry }
+        ensures over { Over result buffer.entry }
     {
         Queue {
-            room,
+            buffer,
             limit,
             head: 0,
             len: 0,
@@ -62,7 +62,7 @@ impl<'a, T: Copy> Queue<'a, T> {
             return Err(entry);
         }
         let place = self.tail();
-        self.room[place] = entry;
+        self.buffer[place] = entry;
         self.len += 1;
         Ok(())
     }
@@ -77,7 +77,7 @@ impl<'a, T: Copy> Queue<'a, T> {
             return None;
         }
         let head = self.start();
-        let entry = self.room[head];
+        let entry = self.buffer[head];
         self.head = head + 1;
         self.len -= 1;
         Some(entry)

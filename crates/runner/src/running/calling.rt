@@ -2,10 +2,10 @@
 ghost use Rattle.std.specs.Prelude.{◌≡◌, ◌<◌, [], ◌∷◌, length};
 ghost use Rattle.network.specs.Requests.{call_of};
 ghost use Rattle.network.specs.Served.{Stands};
-ghost use Rattle.network_law.specs.Calls.{asks_domain, opens};
-ghost use Rattle.network_law.specs.declared.Answer.TheVariants.{Domain as Gives, Opened as IsOpened};
-ghost use Rattle.network_law.specs.Moment.{Blank, Right};
-ghost use Rattle.sheet_pile.specs.Sizes.{listed};
+ghost use Rattle.network.specs.Calls.{asks_domain, opens};
+ghost use Rattle.network.specs.declared.law.Answer.TheVariants.{Domain as Gives, Opened as IsOpened};
+ghost use Rattle.network.specs.Moment.{Blank, Right};
+ghost use Rattle.sheet_catalog.specs.Sizes.{listed};
 ghost use Rattle.runner.specs.Led.{Led, MadeOne, moment_at, sizes_at};
 ghost use Rattle.runner.specs.Runs.{move_call, whole};
 
@@ -15,9 +15,9 @@ use crate::outcomes::outcome_of;
 use catalog::Catalog;
 use domains::Returning;
 use network::{Call, Lent, Network};
-use network_law::{Answer, Change};
-use sheet_moves::Move;
-use sheet_pile::sizes::Sizes;
+use network::{Answer, Change};
+use sheet::Move;
+use sheet_catalog::sizes::Sizes;
 
 // As much as any call may need of the buffers.
 const WHOLE: Lent = Lent {

@@ -1,8 +1,8 @@
 // The moves of a run, and the domains after them.
 ghost use Rattle.std.specs.Prelude.{◌≡◌, map, length, IfOk, vec_items};
 ghost use Rattle.network.specs.Served.{Stands};
-ghost use Rattle.network_law.specs.declared.Answer.TheVariants.{Domain as Gives};
-ghost use Rattle.sheet_pile.specs.Sizes.{listed};
+ghost use Rattle.network.specs.declared.law.Answer.TheVariants.{Domain as Gives};
+ghost use Rattle.sheet_catalog.specs.Sizes.{listed};
 ghost use Rattle.runner.specs.Led.{Led, MadeAll, sizes_at};
 ghost use Rattle.runner.specs.Ran.{Ran};
 ghost use Rattle.runner.specs.Runs.{domains_asked, move_call};
@@ -12,9 +12,9 @@ use crate::faults::RunFault;
 use crate::outcomes::refusals;
 use crate::reports::Report;
 use catalog::Catalog;
-use network_law::Change;
-use sheet_moves::Move;
-use sheet_pile::sizes::Sizes;
+use network::Change;
+use sheet::Move;
+use sheet_catalog::sizes::Sizes;
 use std::alloc::{AllocError, Global};
 
 impl<C: Catalog> Running<C> {

@@ -1,7 +1,7 @@
 use Rattle.std.proofs.Common.{◌≡◌, true, ◌∙◌, rules}
 use Rattle.std.specs.Result.{is_ok}
 use Rattle.std.proofs.lemmas.Bool.{cond-true, lt-ltb}
-use Rattle.engine.proofs.Frees.{some_room}
+use Rattle.engine.proofs.Frees.{one_left}
 use Rattle.engine.proofs.release.free.Goals as goal
 
 pub returns : goal.returns
@@ -10,7 +10,7 @@ returns c =
     let q = c.args.q.now in
     let fits : is_ok c.push.result ≡ true =
     c.push.ensures.fits
-    ∙ lt-ltb q.len q.limit (some_room d c.put_back.new.d q.len q.limit c.requires.limit c.requires.few c.put_back.ensures.more)
+    ∙ lt-ltb q.len q.limit (one_left d c.put_back.new.d q.len q.limit c.requires.limit c.requires.few c.put_back.ensures.more)
     in
     record {
       put = c.put_back.ensures.put;

@@ -19,7 +19,7 @@ loop-p-preserved c =
           subst₂ P (sym w.d-is) (sym w.q-is)
           (beside_more n d c.loop-p.d w.free_among.new.d q c.loop-p.q w.free_among.new.q v p w.in-Some.arc c.requires.shape
           w.in-Some.ensures.0 w.in-Some.ensures.1 w.in-Some.ensures.2 c.requires.value w.beside-among.result w.beside-among.ensures
-          w.free_among.ensures.roomy w.free_among.ensures.grew w.free_among.ensures.frees w.free_among.ensures.freed c.loop-p.invariant)
+          w.free_among.ensures.spare w.free_among.ensures.grew w.free_among.ensures.frees w.free_among.ensures.freed c.loop-p.invariant)
       | in_default w ↦
           subst₂ P (sym w.d-is) (sym w.q-is)
           (beside_skip n d c.loop-p.d q c.loop-p.q v p c.requires.shape w.in_default.ensures c.loop-p.invariant)
@@ -28,7 +28,7 @@ loop-p-preserved c =
 pub returns : goal.returns
 returns c =
     record {
-      roomy = c.loop-p.invariant.roomy;
+      spare = c.loop-p.invariant.spare;
       grew = c.loop-p.invariant.grew;
       follows = beside_all c.args.c.now c.args.d.now c.loop-p.d c.args.q.now c.loop-p.q c.args.returning c.loop-p.p c.loop-p-test.false c.loop-p.invariant;
     }

@@ -20,7 +20,7 @@ loop-returning-smaller c =
 pub loop-returning-preserved : goal.loop-returning-preserved
 loop-returning-preserved c =
     let P : ℕ → Domains → List Returning → Type 0 = λ p d₀ w. Releasing c.args.c.now p d₀ c.loop-returning.d w in (
-      c.free_beside.ensures.roomy,
+      c.free_beside.ensures.spare,
       c.free_beside.ensures.grew.clock ∙ c.loop-returning.invariant.1,
       λ i x h. c.free_beside.ensures.grew.shown i x (c.loop-returning.invariant.2 i x h),
       omega (arith, c.free_beside.ensures.grew.more, c.loop-returning.invariant.3),

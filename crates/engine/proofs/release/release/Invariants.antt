@@ -4,12 +4,12 @@ use Rattle.queue.specs.Waiting.{Kept, waits}
 use Rattle.domains.specs.declared.Domains.{Domains}
 use Rattle.domains.specs.Model.{shown, total}
 use Rattle.domains.specs.Releasing.{Releasing}
-use Rattle.engine.specs.Returns.{Roomy}
+use Rattle.engine.specs.Returns.{Spare}
 use Rattle.engine.proofs.release.release.Given as goal
 
 abbrev pub invariant-loop-returning : goal.invariant-loop-returning
 invariant-loop-returning l =
-    Roomy l.c l.d l.q
+    Spare l.c l.d l.q
     × (l.d.clock ≡ l.initial.d.clock)
     × Inside (shown l.d) (shown l.initial.d)
     × (total l.initial.d.sets ≤ total l.d.sets)

@@ -1,9 +1,9 @@
 use Rattle.std.proofs.Common.{[], ◌∷◌, sym, ap, subst}
-use Rattle.network_law.specs.declared.Answer.TheVariants.{Opened, Domain}
-use Rattle.network_law.specs.Calls.{adds, asks_domain, opens, retracts}
-use Rattle.network_law.specs.History.{History}
-use Rattle.network_model.specs.Model.{Linked, moment_of}
-use Rattle.network_model.specs.Performs.{answer_by, buffers, rooms_of}
+use Rattle.network.specs.declared.law.Answer.TheVariants.{Opened, Domain}
+use Rattle.network.specs.Calls.{adds, asks_domain, opens, retracts}
+use Rattle.network.specs.History.{History}
+use Rattle.network.specs.Model.{Linked, moment_of}
+use Rattle.network.specs.Performs.{answer_by, buffers, lengths_of}
 use Rattle.network.specs.ByHand.{answers_of}
 use Rattle.network.proofs.OneByOne.{one_by_one}
 use Rattle.network.proofs.by_hand.try_out.Goals as goal
@@ -20,7 +20,7 @@ returns-clause-law g c =
     let v = c.args.returning.now in
     let p = c.args.constraint in
     let i = c.args.variable in
-    let rooms = rooms_of w v in
+    let lengths = lengths_of w v in
     let opened = begun.ensures.performs made.ensures.linked in
     let mean = g.C.Catalog.meaning in
     let stands₁ = subst (λ k. Linked (mean k) begun.new.self.state) (sym begun.ensures.catalog) opened.linked in
@@ -34,7 +34,7 @@ returns-clause-law g c =
       right = made.ensures.right;
       history =
           subst
-          (λ k. History (g.C.Catalog.meaning k) (moment_of made.result.state) (buffers w v) (opens c.args.sizes.now 0 ∷ adds p rooms ∷ asks_domain i ∷ retracts p rooms ∷ asks_domain i ∷ []) (answers_of (record { opened = begun.result; added = add.result; under = under.result; retracted = gone.result; after = after.result })) (moment_of gone.new.self.state) (buffers gone.new.waiting gone.new.returning))
+          (λ k. History (g.C.Catalog.meaning k) (moment_of made.result.state) (buffers w v) (opens c.args.sizes.now 0 ∷ adds p lengths ∷ asks_domain i ∷ retracts p lengths ∷ asks_domain i ∷ []) (answers_of (record { opened = begun.result; added = add.result; under = under.result; retracted = gone.result; after = after.result })) (moment_of gone.new.self.state) (buffers gone.new.waiting gone.new.returning))
           made.ensures.catalog
           (one_by_one (g.C.Catalog.meaning made.result.catalog) (g.C.Catalog.meaning begun.new.self.catalog) (g.C.Catalog.meaning add.new.self.catalog) (g.C.Catalog.meaning gone.new.self.catalog)
           made.result.state begun.new.self.state add.new.self.state gone.new.self.state

@@ -1,7 +1,7 @@
 use Rattle.std.proofs.Common.{length, subst, take}
-use Rattle.network_law.specs.History.{History}
-use Rattle.network_model.specs.Model.{moment_of}
-use Rattle.network_model.specs.Performs.{buffers, rooms_of}
+use Rattle.network.specs.History.{History}
+use Rattle.network.specs.Model.{moment_of}
+use Rattle.network.specs.Performs.{buffers, lengths_of}
 use Rattle.network.specs.Requests.{calls_of}
 use Rattle.network.proofs.calls.perform.Goals as goal
 
@@ -10,7 +10,7 @@ returns-clause-law g c =
     let made = c.new-network in
     let did = c.perform in
     let before = buffers c.args.waiting.now c.args.returning.now in
-    let calls = calls_of (rooms_of c.args.waiting.now c.args.returning.now) (take (length c.args.answers.now) c.args.calls.now) in
+    let calls = calls_of (lengths_of c.args.waiting.now c.args.returning.now) (take (length c.args.answers.now) c.args.calls.now) in
     record {
       first = moment_of made.result.state;
       blank = made.ensures.blank;

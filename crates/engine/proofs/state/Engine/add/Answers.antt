@@ -8,10 +8,10 @@ returns c =
       can = c.if-not-can_add.ensures;
       added =
           record {
-            constraints = c.put_in.ensures.present;
-            right = right_now c.put_in.new.self.constraints c.put_in.new.self.domains (stood c.put_in.new.self);
-            went = c.put_in.ensures.went;
-            count = omega (arith, c.put_in.ensures.went.later);
+            constraints = c.insert.ensures.present;
+            right = right_now c.insert.new.self.constraints c.insert.new.self.domains (stood c.insert.new.self);
+            went = c.insert.ensures.went;
+            count = omega (arith, c.insert.ensures.went.later);
           };
-      past = c.put_in.ensures.past;
+      past = c.insert.ensures.past;
     }

@@ -5,8 +5,8 @@ use Rattle.engine.proofs.state.Engine.retract.Goals as goal
 pub overflow_sub-result : goal.overflow_sub-result
 overflow_sub-result c = omega (
   arith,
-  more_shown c.args.self.now.constraints c.take_out.new.self.constraints c.args.self.now.domains c.take_out.new.self.domains
-      (stood c.args.self.now) (stood c.take_out.new.self) c.take_out.ensures.grew,
+  more_shown c.args.self.now.constraints c.remove.new.self.constraints c.args.self.now.domains c.remove.new.self.domains
+      (stood c.args.self.now) (stood c.remove.new.self) c.remove.ensures.grew,
   c.count.ensures,
   c.count-before.ensures,
 )
@@ -17,22 +17,22 @@ returns c =
       can = c.if-not-can_retract.ensures;
       retracted =
           record {
-            constraints = c.take_out.ensures.absent;
-            right = right_now c.take_out.new.self.constraints c.take_out.new.self.domains (stood c.take_out.new.self);
-            grew = c.take_out.ensures.grew;
-            kept = c.take_out.ensures.kept;
-            dated = c.take_out.ensures.dated;
-            rose = c.take_out.ensures.rose;
-            later = c.take_out.ensures.later;
-            soon = c.take_out.ensures.soon;
+            constraints = c.remove.ensures.absent;
+            right = right_now c.remove.new.self.constraints c.remove.new.self.domains (stood c.remove.new.self);
+            grew = c.remove.ensures.grew;
+            kept = c.remove.ensures.kept;
+            dated = c.remove.ensures.dated;
+            rose = c.remove.ensures.rose;
+            later = c.remove.ensures.later;
+            soon = c.remove.ensures.soon;
             count = omega (
               arith,
-              more_shown c.args.self.now.constraints c.take_out.new.self.constraints c.args.self.now.domains c.take_out.new.self.domains
-                  (stood c.args.self.now) (stood c.take_out.new.self) c.take_out.ensures.grew,
+              more_shown c.args.self.now.constraints c.remove.new.self.constraints c.args.self.now.domains c.remove.new.self.domains
+                  (stood c.args.self.now) (stood c.remove.new.self) c.remove.ensures.grew,
               c.count.ensures,
               c.count-before.ensures,
             );
           };
-      past = c.take_out.ensures.past;
-      past_returning = c.take_out.ensures.past_returning;
+      past = c.remove.ensures.past;
+      past_returning = c.remove.ensures.past_returning;
     }

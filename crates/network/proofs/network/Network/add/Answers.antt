@@ -1,9 +1,9 @@
 use Rattle.std.proofs.Common.{OnErr, Err, Some, refl, ap, ◌∙◌}
 use Rattle.std.proofs.lemmas.Result.{err_from_is_err_and, MatchResult-weaker}
 use Rattle.std.proofs.lemmas.Bool.{both_ways}
-use Rattle.network_model.specs.Model.{Linked}
-use Rattle.network_model.specs.Performs.{buffers}
-use Rattle.network_model.proofs.Changing.{add_refused, add_took, may_add}
+use Rattle.network.specs.Model.{Linked}
+use Rattle.network.specs.Performs.{buffers}
+use Rattle.network.proofs.Changing.{add_refused, add_took, may_add}
 use Rattle.network.proofs.Lending.{took_lent}
 use Rattle.network.proofs.network.Network.add.Goals as goal
 
@@ -31,19 +31,19 @@ returns g c =
     let m = g.C.Catalog.meaning n.catalog in
     let lawful = g.C.Catalog.lawful n.catalog in
     let free = c.in_ok-left.ensures.refused in
-    let never : Linked m n.state → OnErr c.put_in.result ⊥ =
-    λ linked. MatchResult-weaker c.put_in.result c.put_in.ensures.added (λ v did. tt)
+    let never : Linked m n.state → OnErr c.insert.result ⊥ =
+    λ linked. MatchResult-weaker c.insert.result c.insert.ensures.added (λ v did. tt)
     (λ e cannot. both_ways _ cannot (may_add m lawful n.state c.args.constraint c.args.waiting.now c.args.returning.now linked c.know.new.self.state free (c.know.ensures.learnt linked)))
     in
     record {
-      catalog = c.put_in.ensures.catalog ∙ c.know.ensures.catalog;
+      catalog = c.insert.ensures.catalog ∙ c.know.ensures.catalog;
       performs = λ linked.
-          took_lent m n.state c.put_in.new.self.state (buffers c.args.waiting.now c.args.returning.now) (buffers c.put_in.new.waiting c.args.returning.now) _ c.put_in.result
-          (add_took m lawful n.state c.args.constraint c.args.waiting.now c.args.returning.now linked c.put_in.new.self.state c.know.new.self.state c.put_in.result free
-          (c.know.ensures.learnt linked) c.put_in.ensures.added c.put_in.ensures.wiped c.put_in.ensures.variables c.put_in.ensures.known)
-          (MatchResult-weaker c.put_in.result (never linked) (λ v did. tt) (λ e no. absurd no)) (c.put_in.ensures.past, refl);
-      past = c.put_in.ensures.past;
+          took_lent m n.state c.insert.new.self.state (buffers c.args.waiting.now c.args.returning.now) (buffers c.insert.new.waiting c.args.returning.now) _ c.insert.result
+          (add_took m lawful n.state c.args.constraint c.args.waiting.now c.args.returning.now linked c.insert.new.self.state c.know.new.self.state c.insert.result free
+          (c.know.ensures.learnt linked) c.insert.ensures.added c.insert.ensures.wiped c.insert.ensures.variables c.insert.ensures.known)
+          (MatchResult-weaker c.insert.result (never linked) (λ v did. tt) (λ e no. absurd no)) (c.insert.ensures.past, refl);
+      past = c.insert.ensures.past;
       returning = refl;
-      refused = λ linked. MatchResult-weaker c.put_in.result (never linked) (λ v did. tt) (λ e no. absurd no);
-      unlent = λ linked. MatchResult-weaker c.put_in.result (never linked) (λ v did. tt) (λ e no. absurd no);
+      refused = λ linked. MatchResult-weaker c.insert.result (never linked) (λ v did. tt) (λ e no. absurd no);
+      unlent = λ linked. MatchResult-weaker c.insert.result (never linked) (λ v did. tt) (λ e no. absurd no);
     }

@@ -1,8 +1,8 @@
 use Rattle.std.proofs.Common.{◌≤◌, ◌++◌, length, drop, subst, arith}
-use Rattle.network_law.specs.declared.Answer.TheVariants.{Changed}
-use Rattle.network_law.specs.Calls.{adds}
-use Rattle.network_model.specs.Performs.{TookLent, answer_by, buffers}
-use Rattle.network.proofs.Lending.{lent_rooms, part_lent, past_part}
+use Rattle.network.specs.declared.law.Answer.TheVariants.{Changed}
+use Rattle.network.specs.Calls.{adds}
+use Rattle.network.specs.Performs.{TookLent, answer_by, buffers}
+use Rattle.network.proofs.Lending.{lent_lengths, part_lent, past_part}
 use Rattle.network.proofs.network.Network.add_lent.Goals as goal
 
 pub returns-clause-performs : goal.returns-clause-performs
@@ -14,8 +14,8 @@ returns-clause-performs g c stands =
     let did = c.add in
     let m = g.C.Catalog.meaning c.args.self.now.catalog in
     let answer = answer_by Changed did.result in
-    subst (λ rooms. TookLent m c.args.self.now.state (buffers w v) (adds c.args.constraint rooms) answer did.new.self.state (buffers (did.new.waiting ++ drop k w) (did.new.returning ++ drop l v)))
-    (lent_rooms w v k l c.args.lent c.cut-part.ensures.waiting c.cut-part.ensures.returning)
+    subst (λ lengths. TookLent m c.args.self.now.state (buffers w v) (adds c.args.constraint lengths) answer did.new.self.state (buffers (did.new.waiting ++ drop k w) (did.new.returning ++ drop l v)))
+    (lent_lengths w v k l c.args.lent c.cut-part.ensures.waiting c.cut-part.ensures.returning)
     (part_lent m c.args.self.now.state did.new.self.state _ answer w did.new.waiting v did.new.returning k l
     (omega (arith, c.cut-part.ensures.waiting)) (omega (arith, c.cut-part.ensures.returning)) (did.ensures.performs stands))
 

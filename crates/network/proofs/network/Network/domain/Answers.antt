@@ -1,4 +1,4 @@
-use Rattle.network_model.proofs.Asking.{domain_no, domain_yes}
+use Rattle.network.proofs.Asking.{domain_no, domain_yes}
 use Rattle.network.proofs.network.Network.domain.Goals as goal
 
 pub returns-then-not-has_variable : goal.returns-then-not-has_variable

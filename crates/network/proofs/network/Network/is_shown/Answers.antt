@@ -1,6 +1,6 @@
 use Rattle.std.proofs.Common.{Some, ap, ◌∙◌}
 use Rattle.std.proofs.lemmas.Result.{err_from_is_err_and}
-use Rattle.network_model.proofs.Asking.{shown_no, shown_yes}
+use Rattle.network.proofs.Asking.{shown_no, shown_yes}
 use Rattle.network.proofs.network.Network.is_shown.Goals as goal
 
 pub returns-in_err-check_value : goal.returns-in_err-check_value

@@ -1,7 +1,7 @@
 use Rattle.std.specs.Result.{is_ok}
 use Rattle.std.proofs.Common.{refl, arith, rules}
 use Rattle.std.proofs.lemmas.Grind.{common_steps}
-use Rattle.network_model.proofs.Learning.{learnt}
+use Rattle.network.proofs.Learning.{learnt}
 use Rattle.network.proofs.network.Network.know.Goals as goal
 
 pub returns-then-not-self-constraint : goal.returns-then-not-self-constraint

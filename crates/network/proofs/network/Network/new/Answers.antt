@@ -1,9 +1,9 @@
 use Rattle.std.proofs.Common.{ℕ, List, Bool, sym, refl, subst}
 use Rattle.engine.proofs.Called.{right_now, stood}
-use Rattle.network_law.specs.Moment.{Blank}
-use Rattle.network_model.specs.Model.{Links, moment}
-use Rattle.network_model.proofs.Opening.{links_new, blank_new}
-use Rattle.network_model.proofs.Steps.{right_here}
+use Rattle.network.specs.Moment.{Blank}
+use Rattle.network.specs.Model.{Links, moment}
+use Rattle.network.proofs.Opening.{links_new, blank_new}
+use Rattle.network.proofs.Steps.{right_here}
 use Rattle.network.proofs.network.Network.new.Goals as goal
 
 pub returns : goal.returns

@@ -1,9 +1,9 @@
 use Rattle.std.proofs.Common.{Some, sym, refl, ap, ◌∙◌}
 use Rattle.std.proofs.lemmas.Result.{err_from_is_err_and}
-use Rattle.network_law.specs.Calls.{opens}
-use Rattle.network_model.specs.Model.{moment_of}
-use Rattle.network_model.proofs.Asking.{refused}
-use Rattle.network_model.proofs.Opening.{links_open, step_open}
+use Rattle.network.specs.Calls.{opens}
+use Rattle.network.specs.Model.{moment_of}
+use Rattle.network.proofs.Asking.{refused}
+use Rattle.network.proofs.Opening.{links_open, step_open}
 use Rattle.network.proofs.network.Network.open.Goals as goal
 
 pub returns-in_err-check_sizes : goal.returns-in_err-check_sizes

@@ -1,8 +1,8 @@
 use Rattle.std.proofs.Common.{◌≡◌, take}
 use Rattle.domains.specs.Stands.{Past}
-use Rattle.network_law.specs.History.{History}
-use Rattle.network_model.specs.Model.{moment_of}
-use Rattle.network_model.specs.Performs.{buffers, rooms_of}
+use Rattle.network.specs.History.{History}
+use Rattle.network.specs.Model.{moment_of}
+use Rattle.network.specs.Performs.{buffers, lengths_of}
 use Rattle.network.specs.Requests.{calls_of}
 use Rattle.network.specs.Served.{Stands}
 use Rattle.network.proofs.network.Network.perform.Given as goal
@@ -14,7 +14,7 @@ invariant-loop-i g l = record {
   stands : Stands g.C.Catalog.meaning l.initial.self → Stands g.C.Catalog.meaning l.self;
   history :
       Stands g.C.Catalog.meaning l.initial.self
-      → History (g.C.Catalog.meaning l.initial.self.catalog) (moment_of l.initial.self.state) (buffers l.initial.waiting l.initial.returning) (calls_of (rooms_of l.initial.waiting l.initial.returning) (take l.i l.call-items)) (take l.i l.answers) (moment_of l.self.state) (buffers l.waiting l.returning);
+      → History (g.C.Catalog.meaning l.initial.self.catalog) (moment_of l.initial.self.state) (buffers l.initial.waiting l.initial.returning) (calls_of (lengths_of l.initial.waiting l.initial.returning) (take l.i l.call-items)) (take l.i l.answers) (moment_of l.self.state) (buffers l.waiting l.returning);
   answers : Past l.i l.initial.answers l.answers;
   past : Past 128 l.initial.waiting l.waiting;
   past_returning : Past 2048 l.initial.returning l.returning;

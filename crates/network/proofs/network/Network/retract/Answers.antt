@@ -1,9 +1,9 @@
 use Rattle.std.proofs.Common.{OnErr, Err, Some, refl, ap, ◌∙◌}
 use Rattle.std.proofs.lemmas.Result.{err_from_is_err_and, MatchResult-weaker}
 use Rattle.std.proofs.lemmas.Bool.{both_ways}
-use Rattle.network_model.specs.Model.{Linked}
-use Rattle.network_model.specs.Performs.{buffers}
-use Rattle.network_model.proofs.Changing.{retract_refused, retract_took, may_retract}
+use Rattle.network.specs.Model.{Linked}
+use Rattle.network.specs.Performs.{buffers}
+use Rattle.network.proofs.Changing.{retract_refused, retract_took, may_retract}
 use Rattle.network.proofs.Lending.{took_lent}
 use Rattle.network.proofs.network.Network.retract.Goals as goal
 
@@ -32,20 +32,20 @@ returns g c =
     let m = g.C.Catalog.meaning n.catalog in
     let lawful = g.C.Catalog.lawful n.catalog in
     let free = c.in_ok-check_retract.ensures in
-    let never : Linked m n.state → OnErr c.take_out.result ⊥ =
-    λ linked. MatchResult-weaker c.take_out.result c.take_out.ensures.retracted (λ v did. tt)
+    let never : Linked m n.state → OnErr c.remove.result ⊥ =
+    λ linked. MatchResult-weaker c.remove.result c.remove.ensures.retracted (λ v did. tt)
     (λ e cannot. both_ways _ cannot (may_retract m lawful n.state c.args.constraint c.args.waiting.now c.args.returning.now linked free))
     in
     record {
-      catalog = c.take_out.ensures.catalog;
+      catalog = c.remove.ensures.catalog;
       performs = λ linked.
-          took_lent m n.state c.take_out.new.self.state (buffers c.args.waiting.now c.args.returning.now) (buffers c.take_out.new.waiting c.take_out.new.returning) _ c.take_out.result
-          (retract_took m lawful n.state c.args.constraint c.args.waiting.now c.args.returning.now linked c.take_out.new.self.state c.take_out.result free
-          c.take_out.ensures.retracted c.take_out.ensures.wiped c.take_out.ensures.variables c.take_out.ensures.known)
-          (MatchResult-weaker c.take_out.result (never linked) (λ v did. tt) (λ e no. absurd no)) (c.take_out.ensures.past, c.take_out.ensures.past_returning);
-      past = c.take_out.ensures.past;
-      past_returning = c.take_out.ensures.past_returning;
-      refused = λ linked. MatchResult-weaker c.take_out.result (never linked) (λ v did. tt) (λ e no. absurd no);
-      unlent = λ linked. MatchResult-weaker c.take_out.result (never linked) (λ v did. tt) (λ e no. absurd no);
-      unlent_returning = λ linked. MatchResult-weaker c.take_out.result (never linked) (λ v did. tt) (λ e no. absurd no);
+          took_lent m n.state c.remove.new.self.state (buffers c.args.waiting.now c.args.returning.now) (buffers c.remove.new.waiting c.remove.new.returning) _ c.remove.result
+          (retract_took m lawful n.state c.args.constraint c.args.waiting.now c.args.returning.now linked c.remove.new.self.state c.remove.result free
+          c.remove.ensures.retracted c.remove.ensures.wiped c.remove.ensures.variables c.remove.ensures.known)
+          (MatchResult-weaker c.remove.result (never linked) (λ v did. tt) (λ e no. absurd no)) (c.remove.ensures.past, c.remove.ensures.past_returning);
+      past = c.remove.ensures.past;
+      past_returning = c.remove.ensures.past_returning;
+      refused = λ linked. MatchResult-weaker c.remove.result (never linked) (λ v did. tt) (λ e no. absurd no);
+      unlent = λ linked. MatchResult-weaker c.remove.result (never linked) (λ v did. tt) (λ e no. absurd no);
+      unlent_returning = λ linked. MatchResult-weaker c.remove.result (never linked) (λ v did. tt) (λ e no. absurd no);
     }

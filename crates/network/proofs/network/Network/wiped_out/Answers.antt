@@ -1,4 +1,4 @@
-use Rattle.network_model.proofs.Asking.{wiped_yes}
+use Rattle.network.proofs.Asking.{wiped_yes}
 use Rattle.network.proofs.network.Network.wiped_out.Goals as goal
 
 pub returns : goal.returns

@@ -19,7 +19,7 @@ pub returns : goal.returns
 returns g c =
     let q = c.args.self.now in
     record {
-      waiting = pop_at q.room.now q.limit q.head q.len c.start-head.result _ q.within q.turn q.few c.if-self-eq0.false
+      waiting = pop_at q.buffer.now q.limit q.head q.len c.start-head.result _ q.within q.turn q.few c.if-self-eq0.false
           (start_ways q.limit q.head c.start-head.result c.start-head.ensures);
       len = search rules;
       kept = record { same = refl; limit = refl; long = refl; rest = refl };

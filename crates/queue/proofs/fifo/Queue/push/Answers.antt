@@ -9,7 +9,7 @@ returns g c =
     let ways = tail_ways q.limit q.head q.len c.tail-place.result c.tail-place.ensures in
     record {
       fits = search rules;
-      waiting = push_at q.room.now q.limit q.head q.len c.tail-place.result c.args.entry q.within q.turn (omega arith) ways;
+      waiting = push_at q.buffer.now q.limit q.head q.len c.tail-place.result c.args.entry q.within q.turn (omega arith) ways;
       len = refl;
       back = search rules;
       kept =
@@ -17,7 +17,7 @@ returns g c =
             same = refl;
             limit = refl;
             long = search rules;
-            rest = drop-set-lt q.limit q.room.now c.tail-place.result c.args.entry
+            rest = drop-set-lt q.limit q.buffer.now c.tail-place.result c.args.entry
                 (⊎_elim (λ w. omega (arith, w.0, w.1)) (λ w. omega (arith, w.0, w.1, q.turn)) ways);
           };
     }

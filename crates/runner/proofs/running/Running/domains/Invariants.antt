@@ -1,5 +1,5 @@
 use Rattle.std.proofs.Common.{◌≡◌, ◌≤◌, map, vec_items, vec_len, vec_capacity}
-use Rattle.network_law.specs.declared.Answer.TheVariants.{Domain}
+use Rattle.network.specs.declared.law.Answer.TheVariants.{Domain}
 use Rattle.runner.specs.Led.{Led, sizes_at}
 use Rattle.runner.specs.Runs.{domains_asked}
 use Rattle.runner.proofs.running.Running.domains.Given as goal

@@ -1,4 +1,4 @@
-use Rattle.sheet_pile.specs.Sizes.{listed}
+use Rattle.sheet_catalog.specs.Sizes.{listed}
 use Rattle.runner.proofs.Leading.{ran}
 use Rattle.runner.proofs.running.moving.run_moves.Goals as goal
 

@@ -23,8 +23,8 @@ returns c =
     let p = c.args.self.now in
     let size = length c.args.buffer.now in
     let after = c.in_ok-next.after in
-    let room = c.in_ok-next.ensures.room in
+    let fits_ok = c.in_ok-next.ensures.long in
     let long : 4 + length c.args.body.now ≡ length (framed (record { kind = kind_number c.args.kind; body = c.args.body.now })) = omega arith in
     let became = subst (λ q. Became q.tally (next_step q.tally c.in_ok-next.after c.in_ok-next.next) c.take.new.self) c.self.view_is c.take.ensures in
-    let fits = put_fits p size (4 + length c.args.body.now) after z.shows room.0 room.1 c.in_ok-next.next c.take.new.self c.is_end.result c.is_end.ensures (c.in_ok-next.ensures.judged z.shows z.is) became room.2 in
+    let fits = put_fits p size (4 + length c.args.body.now) after z.shows fits_ok.0 fits_ok.1 c.in_ok-next.next c.take.new.self c.is_end.result c.is_end.ensures (c.in_ok-next.ensures.judged z.shows z.is) became fits_ok.2 in
     (z.shows, z.is, (subst (λ n. put p size z.shows n ≡ Ok (record { tally = c.take.new.self; place = after; is_open = not c.is_end.result })) long fits, refl, search rules))

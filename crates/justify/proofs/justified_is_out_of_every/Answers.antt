@@ -1,5 +1,0 @@
-use Rattle.justify.proofs.Reach.{out_of_every}
-use Rattle.justify.proofs.justified_is_out_of_every.Goals as goal
-
-pub returns : goal.returns
-returns c = out_of_every

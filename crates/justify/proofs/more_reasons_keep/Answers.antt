@@ -1,5 +1,0 @@
-use Rattle.justify.proofs.Keeps.{more_keeps}
-use Rattle.justify.proofs.more_reasons_keep.Goals as goal
-
-pub returns : goal.returns
-returns c = more_keeps

@@ -1,5 +1,0 @@
-use Rattle.justify.proofs.Keeps.{put_out_keeps}
-use Rattle.justify.proofs.put_out_keeps.Goals as goal
-
-pub returns : goal.returns
-returns c = put_out_keeps

@@ -1,5 +1,0 @@
-use Rattle.justify.proofs.Keeps.{release_keeps}
-use Rattle.justify.proofs.release_keeps.Goals as goal
-
-pub returns : goal.returns
-returns c = release_keeps

@@ -1,9 +1,0 @@
-pub mod Alike
-pub mod Counts
-pub mod Link
-pub mod Change
-pub mod Steps
-pub mod Opening
-pub mod Asking
-pub mod Learning
-pub mod Changing

@@ -1,3 +1,0 @@
-pub mod Model
-pub mod Alike
-pub mod Performs

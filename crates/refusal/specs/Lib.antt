@@ -1,3 +1,0 @@
-pub mod Number
-pub mod Causes
-pub mod Text

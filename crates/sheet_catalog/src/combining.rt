@@ -1,0 +1,44 @@
+// The constraints of a sheet, its variables by their house numbers, and those of the house, as one catalog.
+ghost use Rattle.std.specs.Prelude.{◌≡◌};
+ghost use Rattle.catalog.specs.Joined.{joined};
+ghost use Rattle.catalog.specs.Renumbered.{renumbered};
+ghost use Rattle.house.specs.House.{house};
+ghost use Rattle.sheet_format.specs.Meant.{meaning_of, sheet_in};
+ghost use Rattle.sheet_catalog.specs.Combined.{combined_of};
+
+use crate::SheetCatalog;
+use crate::numbers::numbering_of;
+use catalog::joined::Joined;
+use catalog::numbering::Numbering;
+use catalog::renumbered::Renumbered;
+use house::HouseCatalog;
+use sheet::Accepted;
+
+// The constraints of the sheet with its variables renumbered, then those of the house.
+pub fn combined_of<'a>(sheet: &Accepted<'a>) -> Joined<Renumbered<SheetCatalog<'a>>, HouseCatalog>
+    ensures { joined (renumbered result.first.numbering.to (meaning_of (sheet_in result.first.catalog.bytes.now))) house ≡ combined_of sheet.now.bytes.now }
+{
+    let first = Renumbered {
+        catalog: SheetCatalog::of(sheet),
+        numbering: numbering_of(sheet),
+    };
+    let second = HouseCatalog;
+    Joined { first, second }
+}
+
+// The same of any bytes. Those that the check refuses have no constraints and no house numbers, as no bytes at all.
+#[tactic(auto, using(crate::proofs::Known::refused_combined))]
+pub fn combined(bytes: &[u8]) -> Joined<Renumbered<SheetCatalog<'_>>, HouseCatalog>
+    ensures { joined (renumbered result.first.numbering.to (meaning_of (sheet_in result.first.catalog.bytes.now))) house ≡ combined_of bytes.now }
+{
+    match Accepted::new(bytes) {
+        Ok(sheet) => combined_of(&sheet),
+        Err(_) => Joined {
+            first: Renumbered {
+                catalog: SheetCatalog::new(&[]),
+                numbering: Numbering::identity(),
+            },
+            second: HouseCatalog,
+        },
+    }
+}

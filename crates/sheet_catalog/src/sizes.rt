@@ -1,0 +1,16 @@
+// The sizes of a network's variables that a sheet gives.
+ghost use Rattle.std.specs.Prelude.{◌≡◌, ◌≤◌, None, length, take};
+ghost use Rattle.catalog.specs.Causes.{sizes_refusal};
+
+// As many sizes as a sheet has variables, by their house numbers: from 1 to 32 of them, each from 1 to 64. An array and a count: the public type was `Copy` and must stay so, as an
+// ArrayVec is not.
+#[derive(Clone, Copy)]
+pub struct Sizes {
+    sizes: [usize; 32],
+    count: usize,
+    ghost wide: { length sizes ≡ 32 },
+    ghost few: { count ≤ 32 },
+    ghost good: { sizes_refusal (take count sizes) ≡ None },
+}
+
+pub mod reading;

@@ -1,3 +1,0 @@
-pub mod Meant
-pub mod Begun
-pub mod Placed

@@ -1,3 +1,0 @@
-mod Everyone
-mod Fitting
-mod Known

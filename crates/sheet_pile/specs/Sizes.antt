@@ -1,6 +1,0 @@
--- The list that sizes are.
-use Rattle.std.specs.Prelude.{ℕ, List, take}
-use Rattle.sheet_pile.specs.declared.sizes.Sizes.{Sizes}
-
-abbrev pub listed : Sizes → List ℕ
-listed s = take s.count s.sizes

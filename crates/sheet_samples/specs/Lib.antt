@@ -1,3 +1,0 @@
-pub mod Sets
-pub mod Chain
-pub mod Samples
