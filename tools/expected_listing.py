@@ -3,9 +3,9 @@
 have no support until none goes, after each move anew.
 
 usage: python3 tools/expected_listing.py SHEET      prints the listing of the sheet in that file
-       python3 tools/expected_listing.py --wiped    writes the sheet of the program `fit_wiped` to standard output
+       python3 tools/expected_listing.py --wiped    writes the sheet `sheets/wiped.sheet` to standard output
 
-So the stored output of `fit_wiped` is what the first prints of `sheets/wiped.sheet`, which is what the second writes.
+The gate (`.ci/listings`) runs `fit` on each sheet in `sheets/` and compares what it prints with what the first prints.
 """
 import struct
 import sys
