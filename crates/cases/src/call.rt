@@ -1,7 +1,6 @@
 // Calls, read from lines, and answers, in words.
 use crate::words::Group;
-use network::{Call, Lent};
-use network::Answer;
+use network::{Answer, Call, Lent};
 use std::fmt;
 
 // all that there is of the buffers

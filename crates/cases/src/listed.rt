@@ -2,10 +2,9 @@
 use crate::call::{Answered, call};
 use crate::words::Line;
 use catalog::Catalog;
-use domains::Returning;
-use network::{Call, perform};
-use network::Answer;
 use catalog::refusal::Refusal;
+use domains::Returning;
+use network::{Answer, Call, perform};
 use std::alloc::{AllocError, Global};
 use std::array;
 

@@ -7,7 +7,7 @@
 //
 //     network CATALOG, or scratch CATALOG, where the catalog is
 //         chain, ordered, crossed       a sample
-//         ladder N                      so many count
+//         ladder N                      so many constraints
 //         house                         the constraints of the house
 //         house numbered N..            these renumbered: 32 numbers, or none where each variable keeps its own
 //         chain-house numbered N..      the chain renumbered, then the house

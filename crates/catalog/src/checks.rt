@@ -4,8 +4,8 @@ ghost use Rattle.catalog.specs.Meaning.{ends_of};
 ghost use Rattle.catalog.specs.Causes.{constraint_refusal, sizes_fit, sizes_refusal};
 ghost use Rattle.std.specs.Result.{result_err};
 
-use crate::refusal::Refusal;
 use crate::Catalog;
+use crate::refusal::Refusal;
 
 // Is each size from 1 to 64?
 fn sizes_fit(sizes: &[usize]) -> bool

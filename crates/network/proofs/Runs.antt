@@ -7,8 +7,7 @@ use Rattle.domains.specs.declared.Returning.{Returning}
 use Rattle.domains.specs.Stands.{Past}
 use Rattle.network.specs.declared.law.Answer.{Answer}
 use Rattle.network.specs.Buffers.{Buffers}
-use Rattle.network.specs.Calls.{Lengths}
-use Rattle.network.specs.Calls.{Call as Asked}
+use Rattle.network.specs.Calls.{Lengths, Call as Asked}
 use Rattle.network.specs.Moment.{Moment}
 use Rattle.network.specs.History.{Performed, History}
 use Rattle.network.proofs.Histories.{one_more}

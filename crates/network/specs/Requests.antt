@@ -1,7 +1,6 @@
 -- The calls that a program lists, as the law names them.
 use Rattle.std.specs.Prelude.{List, map, min}
-use Rattle.network.specs.Calls.{Lengths, opens, adds, retracts, asks_domain, asks_shown, asks_justification, asks_wiped}
-use Rattle.network.specs.Calls.{Call as Asked}
+use Rattle.network.specs.Calls.{Lengths, opens, adds, retracts, asks_domain, asks_shown, asks_justification, asks_wiped, Call as Asked}
 use Rattle.network.specs.declared.calls.Call.{Call}
 use Rattle.network.specs.declared.calls.Call.TheVariants.{Open, Add, Retract, Domain, Shown, Justification, WipedOut}
 use Rattle.network.specs.declared.calls.Lent.{Lent}

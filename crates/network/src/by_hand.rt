@@ -7,11 +7,11 @@ ghost use Rattle.network.specs.History.{Run};
 ghost use Rattle.network.specs.Model.{moment_of};
 ghost use Rattle.network.specs.Performs.{buffers, lengths_of};
 
+use crate::law::Change;
 use crate::network::Network;
 use catalog::Catalog;
-use domains::Returning;
-use crate::law::Change;
 use catalog::refusal::Refusal;
+use domains::Returning;
 
 // What came of trying one constraint out.
 #[derive(Clone, Copy, PartialEq, Eq, Debug)]

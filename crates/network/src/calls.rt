@@ -9,11 +9,11 @@ ghost use Rattle.network.specs.Model.{moment_of};
 ghost use Rattle.network.specs.Performs.{answer_by, buffers, lengths_of};
 ghost use Rattle.network.specs.declared.law.Answer.TheVariants.{Changed};
 
+use crate::law::{Answer, Change};
 use crate::network::Network;
 use catalog::Catalog;
-use domains::Returning;
-use crate::law::{Answer, Change};
 use catalog::refusal::Refusal;
+use domains::Returning;
 
 // How many entries of the two buffers a call is lent: for constraints that wait, and for values that come back. Of a shorter buffer it gets all.
 #[derive(Clone, Copy, PartialEq, Eq, Debug)]

@@ -3,8 +3,8 @@ ghost use Rattle.std.specs.Prelude.{Some};
 ghost use Rattle.network.specs.Text.{change_text};
 ghost use Rattle.network.specs.Theorems.{HistoriesAreSteps, HistoriesJoin, HistoriesPart, HistoriesRight, StepsJoin};
 
-use domains::Justification;
 use catalog::refusal::Refusal;
+use domains::Justification;
 use std::fmt;
 
 // What an accepted add or retract did: how many values it took away or brought back, and the wiped-out variable after it.

@@ -10,6 +10,7 @@ mod state;
 pub use by_hand::{Tried, try_out};
 pub use calls::{Call, Lent, perform};
 pub use law::{
-    Answer, Change, histories_are_steps, histories_join, histories_part, histories_right, steps_join,
+    Answer, Change, histories_are_steps, histories_join, histories_part, histories_right,
+    steps_join,
 };
 pub use network::Network;

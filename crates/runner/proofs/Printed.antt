@@ -4,9 +4,8 @@ use Rattle.std.proofs.lemmas.Bool.{cases_lt}
 use Rattle.std.proofs.lemmas.List.{append_assoc, append-nil, at_drop_more, at_drop_all}
 use Rattle.network.specs.declared.law.Change.{Change}
 use Rattle.sheet.specs.declared.sheet_move.Move.{Move}
-use Rattle.runner.specs.Lines.{domain_line}
+use Rattle.runner.specs.Lines.{domain_line, ended, move_line, moves_text, domains_text}
 use Rattle.runner.specs.declared.faults.RunFault.{RunFault}
-use Rattle.runner.specs.Lines.{ended, move_line, moves_text, domains_text}
 
 pub move_more : (before after : List ℕ) (moves : List Move) (outcomes : List (Result Change RunFault)) (i : ℕ) (d : Move) (o : Result Change RunFault) → i < length moves → i < length outcomes
     → after ≡ before ++ ended (move_line (get_or moves i d) (get_or outcomes i o))

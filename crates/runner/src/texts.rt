@@ -4,9 +4,9 @@ ghost use Rattle.runner.specs.Lines.{domain_line, domains_text, ended, move_line
 
 use crate::faults::RunFault;
 use crate::reports::Report;
+use bits::Values;
 use network::Change;
 use sheet::Move;
-use bits::Values;
 use std::alloc::{AllocError, Global};
 
 // A move: its word, the index, and how many values went or came back and the wiped-out variable or `-`; of a refused one, `no` and the number.

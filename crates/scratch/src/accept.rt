@@ -5,8 +5,8 @@ ghost use Rattle.std.specs.Result.{result_err};
 
 use crate::request::Request;
 use catalog::Catalog;
-use catalog::refusal::Refusal;
 use catalog::checks::{check_constraint, check_sizes};
+use catalog::refusal::Refusal;
 
 // Is each index one of a constraint between two of the first `n` variables?
 #[tactic(auto, using(crate::proofs::Accepting::indices_pass, crate::proofs::Accepting::indices_stop, crate::proofs::Accepting::indices_end))]

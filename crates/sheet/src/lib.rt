@@ -14,6 +14,7 @@ mod sheet_move;
 mod writer;
 
 pub use accepted::Accepted;
+pub use calls::{Call, write};
 pub use checking::check;
 pub use copying::{RewriteFault, rewrite};
 pub use formula::Formula;
@@ -21,4 +22,3 @@ pub use moves::moves_of;
 pub use reader::{Part, Record, read_record};
 pub use sheet_move::Move;
 pub use writer::Writer;
-pub use calls::{Call, write};

@@ -3,8 +3,8 @@ ghost use Rattle.std.specs.Prelude.{◌≡◌, map, IfOk};
 ghost use Rattle.sheet_format.specs.Decoding.{decode};
 ghost use Rattle.sheet.specs.Moves.{move_of, move_by_kind};
 
-use crate::sheet_move::Move;
 use crate::Accepted;
+use crate::sheet_move::Move;
 use sheet_format::{Kind, word};
 use std::alloc::{AllocError, Global};
 

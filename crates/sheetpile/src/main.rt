@@ -6,8 +6,8 @@
 mod counting;
 
 use catalog::Catalog;
-use counting::{inside, pairs};
 use catalog::checks::check_constraint;
+use counting::{inside, pairs};
 use runner::domain_line;
 use scratch::largest_domains;
 use sheet::Accepted;

@@ -1,6 +1,10 @@
 // One list of calls: after each of them every party is to tell the same.
+use crate::checks::{check_answer, check_done, check_unasked};
 use crate::draws::Draws;
+use crate::first::First;
+use crate::second::Second;
 use catalog::Catalog;
+use catalog::refusal::Refusal;
 use judging::book::{Book, Call, may_open};
 use judging::expected;
 use judging::judge::Judge;
@@ -8,10 +12,6 @@ use judging::met::Met;
 use judging::reported::Reported;
 use judging::trouble::Trouble;
 use network::Change;
-use crate::checks::{check_answer, check_done, check_unasked};
-use crate::first::First;
-use crate::second::Second;
-use catalog::refusal::Refusal;
 use std::alloc::Global;
 use supports::wiped_out;
 

@@ -5,9 +5,8 @@
 #![tactic(auto)]
 
 use anyhow::{Context, anyhow};
-use sheet::{Formula, check, rewrite};
+use sheet::{Call, Formula, check, rewrite, write};
 use sheet_format::{Variable, WriteFault};
-use sheet::{Call, write};
 use std::alloc::Global;
 use std::io::{BufRead, BufReader};
 

@@ -9,8 +9,8 @@ ghost use Rattle.network.specs.Performs.{answer_by};
 
 use super::Network;
 use catalog::Catalog;
-use domains::Justification;
 use catalog::refusal::Refusal;
+use domains::Justification;
 
 impl<C: Catalog> Network<C> {
     // The values of the variable that are shown: bit x for the value x.

@@ -13,10 +13,10 @@ ghost use Rattle.network.specs.Performs.{answer_by, buffers, lengths_of};
 
 use super::Network;
 use super::checks::Lengths;
-use catalog::Catalog;
-use domains::Returning;
 use crate::law::Change;
+use catalog::Catalog;
 use catalog::refusal::Refusal;
+use domains::Returning;
 
 impl<C: Catalog> Network<C> {
     // Puts a known constraint in.

@@ -7,9 +7,9 @@ ghost use Rattle.std.specs.Result.{result_err};
 
 use super::Network;
 use catalog::Catalog;
-use domains::is_spent;
-use catalog::refusal::Refusal;
 use catalog::checks::check_constraint;
+use catalog::refusal::Refusal;
+use domains::is_spent;
 
 // How long the lent buffers are.
 #[derive(Clone, Copy)]

@@ -11,11 +11,11 @@ ghost use Rattle.network.specs.Performs.{answer_by};
 ghost use Rattle.catalog.specs.Causes.{sizes_refusal};
 
 use super::Network;
-use catalog::Catalog;
-use engine::Engine;
 use crate::state::State;
-use catalog::refusal::Refusal;
+use catalog::Catalog;
 use catalog::checks::check_sizes;
+use catalog::refusal::Refusal;
+use engine::Engine;
 use std::array;
 
 // The size of the variable i as a byte, 0 where there is no such variable.

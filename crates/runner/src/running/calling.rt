@@ -14,8 +14,7 @@ use crate::faults::RunFault;
 use crate::outcomes::outcome_of;
 use catalog::Catalog;
 use domains::Returning;
-use network::{Call, Lent, Network};
-use network::{Answer, Change};
+use network::{Answer, Call, Change, Lent, Network};
 use sheet::Move;
 use sheet_catalog::sizes::Sizes;
 
