@@ -1,73 +1,26 @@
-// Checks the sheets of a table of cases, one a line on standard input, and prints each verdict with the count of records before a fault.
-// A line is a name, a colon and the sheet's bytes: words of hexadecimal digits, each perhaps followed by `*` and how often it stands.
+// Tries the cases of sheets on standard input, one a line with its name: first sheets that are checked, and after an empty line calls of a writer.
 #![tactic(auto)]
 
-use anyhow::{Context, anyhow};
-use sheet::check;
-use std::alloc::Global;
+use anyhow::Context;
 use std::io::{BufRead, BufReader};
 
-fn digit(c: u8) -> anyhow::Result<u8> {
-    match c {
-        b'0'..=b'9' => Ok(c - b'0'),
-        b'a'..=b'f' => Ok(c - b'a' + 10),
-        _ => Err(anyhow!("a word is not hexadecimal")),
-    }
-}
-
-// The bytes that a word's digits write. Not by the crate `hex`, which reads capitals too and refuses a digit that is left over.
-fn bytes_of(heap: Global, word: &str) -> anyhow::Result<Vec<u8>> {
-    let digits: Vec<u8> = word.bytes().map(digit).try_collect(heap)?;
-    let (pairs, _) = digits.as_chunks::<2>();
-    let bytes = pairs
-        .iter()
-        .map(|[high, low]| *high << 4 | *low)
-        .collect(heap)?;
-    Ok(bytes)
-}
-
-// Adds a word's bytes to a sheet, as often as it says.
-fn add_word(heap: Global, sheet: &mut Vec<u8>, word: &str) -> anyhow::Result<()> {
-    let (digits, times) = match word.split_once('*') {
-        Some((digits, count)) => (digits, count.parse::<u32>()?),
-        None => (word, 1),
-    };
-    let bytes = bytes_of(heap, digits)?;
-    for _ in 0..times {
-        sheet.extend_from_slice(&bytes)?;
-    }
-    Ok(())
-}
-
-fn sheet_of(heap: Global, text: &str) -> anyhow::Result<Vec<u8>> {
-    let mut sheet = Vec::new(heap);
-    for word in text.split(' ') {
-        add_word(heap, &mut sheet, word)?;
-    }
-    Ok(sheet)
-}
-
-fn try_case(rt: &HostRuntime, name: &str, sheet: &[u8]) -> anyhow::Result<()> {
-    match check(sheet) {
-        Ok(found) => {
-            let constraints = found.constraints_at;
-            let moves = found.moves_at;
-            println!(rt; "{name}: {found}; constraints at {constraints}, moves at {moves}")?;
-        }
-        Err(fault) => {
-            let before = fault.records();
-            println!(rt; "{name}: {fault}; {before} records before")?;
-        }
-    }
-    Ok(())
-}
+mod checking;
+mod writing;
 
 fn main(rt: HostRuntime) -> anyhow::Result<()> {
+    let mut is_writing = false;
     for line in BufReader::new(rt.alloc(), rt.stdin())?.lines(rt.alloc()) {
         let line = line?;
+        if line.is_empty() {
+            is_writing = true;
+            continue;
+        }
         let (name, text) = line.split_once(':').context("a line has no name")?;
-        let sheet = sheet_of(rt.alloc(), text)?;
-        try_case(&rt, name, &sheet)?;
+        if is_writing {
+            writing::try_case(&rt, name, text)?;
+        } else {
+            checking::try_case(&rt, name, text)?;
+        }
     }
     Ok(())
 }

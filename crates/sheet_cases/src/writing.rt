@@ -1,14 +1,11 @@
-// Makes the calls of a table of cases on a writer, one case a line on standard input, and prints what the last 16 calls answer and a checksum of the buffer.
+// Makes the calls of a table of cases on a writer, and prints what the last 16 calls answer and a checksum of the buffer.
 // After an accepted end what was written is checked, counted and copied, and a difference is an error.
 // A line is a name, a colon, the length of the buffer, and the calls: a letter and its numbers, joined by commas, each perhaps followed by `*` and
 // how often it stands. The buffer is full of 238 at first.
-#![tactic(auto)]
-
 use anyhow::{Context, anyhow};
 use sheet::{Call, Formula, check, rewrite, write};
 use sheet_format::{Variable, WriteFault};
 use std::alloc::Global;
-use std::io::{BufRead, BufReader};
 
 // a call as it stands in the table
 #[derive(Drop)]
@@ -168,7 +165,7 @@ fn read_back(written: &Written, buffer: &[u8]) -> anyhow::Result<()> {
     }
 }
 
-fn try_case(rt: &HostRuntime, name: &str, text: &str) -> anyhow::Result<()> {
+pub fn try_case(rt: &HostRuntime, name: &str, text: &str) -> anyhow::Result<()> {
     let heap = rt.alloc();
     let mut words = text.split(' ');
     let size = words
@@ -199,14 +196,5 @@ fn try_case(rt: &HostRuntime, name: &str, text: &str) -> anyhow::Result<()> {
     }
     let sum = checksum(&buffer);
     println!(rt; "; {sum}")?;
-    Ok(())
-}
-
-fn main(rt: HostRuntime) -> anyhow::Result<()> {
-    for line in BufReader::new(rt.alloc(), rt.stdin())?.lines(rt.alloc()) {
-        let line = line?;
-        let (name, text) = line.split_once(':').context("a line has no name")?;
-        try_case(&rt, name, text)?;
-    }
     Ok(())
 }
