@@ -9,7 +9,7 @@ use std::alloc::{AllocError, Global};
 pub struct Judge<'a, C> {
     pub catalog: &'a C,
     pub book: &'a Book,
-    pub reported: &'a LawOf,
+    pub reported: &'a Reported,
 }
 
 impl<C: Catalog> Judge<'_, C> {

@@ -73,7 +73,7 @@ impl<C: Catalog> Judge<'_, C> {
     }
 
     // Has each value that was out when this was reported, and whose justification does not rest on what is retracted, the same justification after?
-    pub fn kept(&self, after: &LawOf, resting: &Resting) -> bool {
+    pub fn kept(&self, after: &Reported, resting: &Resting) -> bool {
         self.book.values.iter().all(|value| {
             let before = self.reported.account(*value);
             before.is_none() || resting.has(*value) || before == after.account(*value)

@@ -83,7 +83,7 @@ impl<'a, C: Catalog> First<'a, C> {
     }
 
     // Asks about a value, and notes its account.
-    fn ask_value(&self, reported: &mut LawOf, value: Value) -> Result<(), Trouble> {
+    fn ask_value(&self, reported: &mut Reported, value: Value) -> Result<(), Trouble> {
         let Value { variable, value: x } = value;
         if self.network.is_shown(variable, x)? != reported.shows(value) {
             return Err(Trouble::Shown);
@@ -99,7 +99,7 @@ impl<'a, C: Catalog> First<'a, C> {
     }
 
     // Asks everything that can be asked. A variable is its number, by which the network is asked.
-    pub fn tell(&self, heap: Global, book: &Book) -> Result<LawOf, Trouble> {
+    pub fn tell(&self, heap: Global, book: &Book) -> Result<Reported, Trouble> {
         let mut reported = Reported::new(heap);
         for variable in book.variables() {
             reported.add_domain(self.network.domain(variable)?)?;

@@ -51,7 +51,7 @@ impl<'a, C: Catalog> Second<'a, C> {
     }
 
     // The domains and times, with no constraint in any account. A variable is its number, by which the solver is asked.
-    fn times(&self, heap: Global, book: &Book) -> Result<LawOf, AllocError> {
+    fn times(&self, heap: Global, book: &Book) -> Result<Reported, AllocError> {
         let mut reported = Reported::new(heap);
         for variable in book.variables() {
             reported.add_domain(self.domain(variable))?;
@@ -67,7 +67,7 @@ impl<'a, C: Catalog> Second<'a, C> {
     }
 
     // The solver names only the neighbour of a value that is out: the account is the first constraint to that neighbour that holds, if any does.
-    pub fn tell(&self, heap: Global, book: &Book) -> Result<LawOf, AllocError> {
+    pub fn tell(&self, heap: Global, book: &Book) -> Result<Reported, AllocError> {
         let mut reported = self.times(heap, book)?;
         for value in &book.values {
             if let Some(why) = self.solver.justification(value.variable, value.value) {

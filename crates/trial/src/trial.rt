@@ -21,7 +21,7 @@ use supports::wiped_out;
 struct Parties<'a, C> {
     book: Book,
     domains: Vec<u64>,
-    reported: LawOf,
+    reported: Reported,
     second: Second<'a, C>,
 }
 
@@ -29,7 +29,7 @@ struct Parties<'a, C> {
 fn check_kept<C: Catalog>(
     heap: Global,
     before: &Judge<'_, C>,
-    after: &LawOf,
+    after: &Reported,
     retracted: Option<usize>,
 ) -> Result<(), Trouble> {
     let resting = before.resting_on(heap, retracted)?;
