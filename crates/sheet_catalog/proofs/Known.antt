@@ -1,5 +1,5 @@
 -- What is known of the variables of an accepted sheet.
-use Rattle.std.proofs.Common.{◌≡◌, ℕ, ◌<◌, ◌≤◌, List, [], length, get_or, take, None, Err, sym, refl, ap, ◌∙◌, subst, arith}
+use Rattle.std.proofs.Common.{◌≡◌, ℕ, ◌+◌, ◌*◌, ◌<◌, ◌≤◌, List, [], length, get_or, take, None, Err, sym, refl, ap, ◌∙◌, subst, arith}
 use Rattle.catalog.specs.Joined.{joined}
 use Rattle.catalog.specs.Numbered.{IsNumbering, entry}
 use Rattle.catalog.specs.Renumbered.{renumbered}
@@ -8,7 +8,10 @@ use Rattle.catalog.specs.Causes.{sizes_refusal}
 use Rattle.sheet.specs.declared.accepted.Accepted.{Accepted}
 use Rattle.sheet.proofs.Encoded.{encoded}
 use Rattle.sheet_format.specs.declared.faults.SheetFault.{SheetFault}
+use Rattle.sheet_format.specs.declared.found.Variable.{Variable}
 use Rattle.sheet_format.specs.Decoding.{decode}
+use Rattle.sheet_format.specs.Numbers.{number2}
+use Rattle.sheet_format.specs.Value.{no_variable}
 use Rattle.sheet_format.specs.Verdict.{verdict, walked}
 use Rattle.sheet_format.specs.Meant.{empty_sheet, meaning_of, sheet_in}
 use Rattle.sheet_format.specs.Placed.{number_of, numbers_of, size_of_house, SizesOf}
@@ -23,8 +26,16 @@ many s = many_in s.bytes.now s.found (encoded s)
 pub few : (s : Accepted) → s.found.variables ≤ 32
 few s = let k = many s in let n = (encoded s).valid.few_variables in omega arith
 
-pub there : (s : Accepted) (e : ℕ) → e < s.found.variables → VariableThere s.bytes.now e
+there : (s : Accepted) (e : ℕ) → e < s.found.variables → VariableThere s.bytes.now e
 there s e = variable_there s.bytes.now s.found e (encoded s)
+
+same : (w : Variable) (size house : ℕ) → size ≡ w.size → house ≡ w.house → ◌≡◌ {A = Variable} (record { size = size; house = house }) w
+same w size house p q = ap (λ x. record { size = x; house = house }) p ∙ ap (λ x. record { size = w.size; house = x }) q
+
+-- a variable that is made of the words of its record
+pub variable_read : (s : Accepted) (e size house : ℕ) → e < s.found.variables → size ≡ number2 s.bytes.now (8 + 8 * e + 4) → house ≡ number2 s.bytes.now (8 + 8 * e + 6)
+    → ◌≡◌ {A = Variable} (record { size = size; house = house }) (get_or (decode s.bytes.now).variables e no_variable)
+variable_read s e size house h p q = let v = there s e h in same _ size house (p ∙ v.size) (q ∙ v.house)
 
 -- the numbers of the variables
 pub numbers_at : (s : Accepted) (xs : List ℕ) → length xs ≡ 32 → ((k : ℕ) → k < 32 → get_or xs k 0 ≡ number_of (decode s.bytes.now) k) → xs ≡ numbers_of (sheet_in s.bytes.now)

@@ -7,6 +7,7 @@ use sheet::Accepted;
 use sheet_format::{Variable, word};
 
 // The variable e of the sheet: its record begins at the byte 8 + 8 * e, and has its size and its house number after the head.
+#[tactic(auto, using(crate::proofs::Known::variable_read))]
 pub(crate) fn variable_at(sheet: &Accepted<'_>, e: usize) -> Variable
     requires { e < sheet.now.found.variables }
     ensures { result ≡ slice_index_or (decode sheet.now.bytes.now).variables e no_variable }
