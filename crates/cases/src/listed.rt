@@ -1,11 +1,11 @@
 // A list of calls on a network, performed in one go.
-use crate::call::{Answered, call};
+use crate::call::call;
+use crate::told::{Told, tell};
 use crate::words::Line;
 use catalog::Catalog;
 use domains::Returning;
 use network::{Call, perform};
 use network_law::Answer;
-use refusal::Refusal;
 use std::alloc::{AllocError, Global};
 use std::array;
 
@@ -13,33 +13,65 @@ use std::array;
 #[derive(Clone, Copy)]
 enum Entry<'a> {
     Call(Call<'a>),
-    // how many entries the buffers have: 128 and 2,048 where no line says it
+    // how many entries the buffers have
     Buffers(usize, usize),
-    // how many entries there are for answers: as many as calls where no line says it
+    // how many entries there are for answers
     Answers(usize),
     // a variable's domain, asked of the network that comes back
     After(usize),
+    Unreadable,
 }
 
-fn entry_of<'a>(line: &'a Line<'_>) -> Option<Entry<'a>> {
+fn entry_of<'a>(line: &'a Line<'_>) -> Entry<'a> {
     if let [group] = line.groups.as_slice() {
         match (group.word, group.numbers.as_slice()) {
-            ("buffers", [waiting, returning]) => return Some(Entry::Buffers(*waiting, *returning)),
-            ("answers", [count]) => return Some(Entry::Answers(*count)),
-            ("after", [variable]) => return Some(Entry::After(*variable)),
+            ("buffers", [waiting, returning]) => return Entry::Buffers(*waiting, *returning),
+            ("answers", [count]) => return Entry::Answers(*count),
+            ("after", [variable]) => return Entry::After(*variable),
             _ => {}
         }
     }
-    call(&line.groups).map(Entry::Call)
+    call(&line.groups).map_or(Entry::Unreadable, Entry::Call)
 }
 
-// Buffers, full of what no change writes.
-#[derive(Drop)]
-struct Buffers {
-    waiting: Vec<u8>,
-    returning: Vec<Returning>,
+// What the lines say of the room for calls.
+#[derive(Clone, Copy)]
+struct Room {
+    waiting: usize,
+    returning: usize,
+    answers: usize,
 }
 
+fn room_of(entries: &[Entry<'_>]) -> Room {
+    let mut room = Room {
+        waiting: 128,
+        returning: 2048,
+        answers: usize::MAX,
+    };
+    for entry in entries {
+        match *entry {
+            Entry::Buffers(waiting, returning) => {
+                room = Room {
+                    waiting,
+                    returning,
+                    ..room
+                };
+            }
+            Entry::Answers(answers) => room = Room { answers, ..room },
+            _ => {}
+        }
+    }
+    room
+}
+
+fn call_in<'a>(entry: &Entry<'a>) -> Option<Call<'a>> {
+    match *entry {
+        Entry::Call(call) => Some(call),
+        _ => None,
+    }
+}
+
+// Buffers are full of what no change writes.
 const MARK: u8 = 255;
 
 const NOTHING: Returning = Returning {
@@ -48,100 +80,63 @@ const NOTHING: Returning = Returning {
     time: 0,
 };
 
-impl Buffers {
-    fn new(heap: Global, waiting: usize, returning: usize) -> Result<Buffers, AllocError> {
-        Ok(Buffers {
-            waiting: vec![in heap; MARK; waiting]?,
-            returning: vec![in heap; NOTHING; returning]?,
-        })
-    }
-
-    // Do the entries past these stand as they were lent?
-    fn as_lent_past(&self, waiting: usize, returning: usize) -> bool {
-        self.waiting.iter().skip(waiting).all(|w| *w == MARK)
-            && self.returning.iter().skip(returning).all(|r| *r == NOTHING)
-    }
+// Do the entries past these stand as they were lent?
+fn as_lent_past(buffers: (&[u8], &[Returning]), waiting: usize, returning: usize) -> bool {
+    buffers.0.iter().skip(waiting).all(|w| *w == MARK)
+        && buffers.1.iter().skip(returning).all(|r| *r == NOTHING)
 }
 
 // What a list left.
 #[derive(Drop)]
 struct Left {
     answers: Vec<Answer>,
-    buffers: Buffers,
+    as_lent: Told,
     // of the network that came back
-    domains: [Result<u64, Refusal>; 32],
+    domains: [Answer; 32],
 }
 
-fn made<C: Catalog + Drop>(
+fn perform_calls<C: Catalog + Drop>(
     heap: Global,
     catalog: C,
-    entries: &[Option<Entry<'_>>],
+    calls: &[Call<'_>],
+    room: Room,
 ) -> Result<Left, AllocError> {
-    let mut calls = Vec::new(heap);
-    let mut buffers = Buffers::new(heap, 128, 2048)?;
-    let mut answered = usize::MAX;
-    for entry in entries {
-        match *entry {
-            Some(Entry::Call(call)) => calls.push(call)?,
-            Some(Entry::Buffers(waiting, returning)) => {
-                buffers = Buffers::new(heap, waiting, returning)?;
-            }
-            Some(Entry::Answers(count)) => answered = count,
-            Some(Entry::After(_)) | None => {}
-        }
-    }
-    let mut answers = vec![in heap; Answer::Opened; answered.min(calls.len())]?;
-    let network = perform(
-        catalog,
-        &calls,
-        &mut answers,
-        &mut buffers.waiting,
-        &mut buffers.returning,
-    );
+    let mut waiting = vec![in heap; MARK; room.waiting]?;
+    let mut returning = vec![in heap; NOTHING; room.returning]?;
+    let mut answers = vec![in heap; Answer::Opened; room.answers.min(calls.len())]?;
+    let network = perform(catalog, calls, &mut answers, &mut waiting, &mut returning);
+    let whole = as_lent_past((&waiting, &returning), 0, 0);
+    let past = as_lent_past((&waiting, &returning), 128, 2048);
     Ok(Left {
         answers,
-        buffers,
-        domains: array::from_fn(|i| network.domain(i)),
+        as_lent: Told::AsLent(whole, past),
+        domains: array::from_fn(|i| network
+            .domain(i)
+            .map_or_else(Answer::Refused, Answer::Domain)),
     })
 }
 
-fn tell(
+fn tell_each(
     rt: &HostRuntime,
     lines: &[Line<'_>],
-    entries: &[Option<Entry<'_>>],
+    entries: &[Entry<'_>],
     left: &Left,
 ) -> anyhow::Result<()> {
     let mut answers = left.answers.iter();
     for (line, entry) in lines.iter().zip(entries) {
-        let text = line.text;
-        if line.is_title() {
-            println!(rt; "{text}")?;
-            continue;
-        }
-        print!(rt; "{text}: ")?;
-        match *entry {
-            Some(Entry::Call(_)) => match answers.next() {
-                Some(answer) => {
-                    let answer = Answered(*answer);
-                    println!(rt; "{answer}")?;
-                }
-                None => println!(rt; "not made")?,
-            }
-            Some(Entry::Buffers(_, _)) => {
-                let whole = left.buffers.as_lent_past(0, 0);
-                let past = left.buffers.as_lent_past(128, 2048);
-                println!(rt; "as lent {whole}, past 128 and 2048 {past}")?;
-            }
-            Some(Entry::Answers(_)) => {
-                let count = left.answers.len();
-                println!(rt; "{count}")?;
-            }
-            Some(Entry::After(variable)) => match left.domains.get(variable) {
-                Some(Ok(domain)) => println!(rt; "0x{domain:x}")?,
-                _ => println!(rt; "none")?,
-            },
-            None => println!(rt; "unreadable")?,
-        }
+        let told = match *entry {
+            Entry::Call(_) => answers
+                .next()
+                .map_or(Told::NotMade, |answer| Told::Answer(*answer)),
+            Entry::Buffers(_, _) => left.as_lent,
+            Entry::Answers(_) => Told::Count(left.answers.len()),
+            Entry::After(variable) => left
+                .domains
+                .get(variable)
+                .map_or(Told::Unreadable, |domain| Told::Answer(*domain)),
+            Entry::Unreadable => Told::Unreadable,
+        };
+        tell(rt, line, told)?;
     }
     Ok(())
 }
@@ -153,7 +148,8 @@ pub fn listed<C: Catalog + Drop>(
     lines: &[Line<'_>],
 ) -> anyhow::Result<()> {
     let heap = rt.alloc();
-    let entries: Vec<Option<Entry<'_>>> = lines.iter().map(entry_of).collect(heap)?;
-    let left = made(heap, catalog, &entries)?;
-    tell(rt, lines, &entries, &left)
+    let entries: Vec<Entry<'_>> = lines.iter().map(entry_of).collect(heap)?;
+    let calls: Vec<Call<'_>> = entries.iter().filter_map(call_in).collect(heap)?;
+    let left = perform_calls(heap, catalog, &calls, room_of(&entries))?;
+    tell_each(rt, lines, &entries, &left)
 }

@@ -30,6 +30,7 @@ mod call;
 mod largest;
 mod listed;
 mod tables;
+mod told;
 mod words;
 
 use catalog::Catalog;
@@ -42,6 +43,7 @@ use listed::listed;
 use samples::Sample;
 use samples::ladder::Ladder;
 use std::io::read_to_string;
+use told::{Told, tell};
 use words::{Group, Line};
 
 // What is done with the lines of a block.
@@ -70,11 +72,9 @@ struct Block<'a, 'b> {
 
 // Says so of each line of a block whose first line cannot be read.
 fn unreadable(rt: &HostRuntime, block: Block<'_, '_>) -> anyhow::Result<()> {
-    let text = block.head.text;
-    println!(rt; "{text}: unreadable")?;
+    tell(rt, block.head, Told::Unreadable)?;
     for line in block.lines {
-        let text = line.text;
-        println!(rt; "{text}: unreadable")?;
+        tell(rt, line, Told::Unreadable)?;
     }
     Ok(())
 }
@@ -84,12 +84,9 @@ fn on<C: Catalog + Drop>(rt: &HostRuntime, block: Block<'_, '_>, catalog: C) -> 
     let Some(task) = task_of(block.head) else {
         return unreadable(rt, block);
     };
-    let text = block.head.text;
-    let count = catalog.count();
-    println!(rt; "{text}: {count} constraints")?;
-    for table in block.tables {
-        let text = table.text;
-        println!(rt; "{text}: a constraint")?;
+    tell(rt, block.head, Told::Count(catalog.count()))?;
+    for (p, table) in block.tables.iter().enumerate() {
+        tell(rt, table, Told::Count(p))?;
     }
     match task {
         Task::Network => listed(rt, catalog, block.lines),
