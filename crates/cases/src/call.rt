@@ -27,7 +27,7 @@ fn time(rest: &[Group<'_>]) -> Option<u32> {
         return None;
     };
     match (group.word, group.numbers.as_slice()) {
-        ("at", [time]) => u32::try_from(*time).ok(),
+        ("at", [time]) if *time <= 0xffff_ffff => Some(*time as u32),
         _ => None,
     }
 }

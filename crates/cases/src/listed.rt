@@ -9,14 +9,25 @@ use network_law::Answer;
 use std::alloc::{AllocError, Global};
 use std::array;
 
+// How many entries the buffers have, and how many there are for answers.
+#[derive(Clone, Copy)]
+struct Room {
+    waiting: usize,
+    returning: usize,
+    answers: usize,
+}
+
+const ENOUGH: Room = Room {
+    waiting: 128,
+    returning: 2048,
+    answers: usize::MAX,
+};
+
 // What a line of a list is.
 #[derive(Clone, Copy)]
 enum Entry<'a> {
     Call(Call<'a>),
-    // how many entries the buffers have
-    Buffers(usize, usize),
-    // how many entries there are for answers
-    Answers(usize),
+    Room(Room),
     // a variable's domain, asked of the network that comes back
     After(usize),
     Unreadable,
@@ -25,8 +36,13 @@ enum Entry<'a> {
 fn entry_of<'a>(line: &'a Line<'_>) -> Entry<'a> {
     if let [group] = line.groups.as_slice() {
         match (group.word, group.numbers.as_slice()) {
-            ("buffers", [waiting, returning]) => return Entry::Buffers(*waiting, *returning),
-            ("answers", [count]) => return Entry::Answers(*count),
+            ("room", [waiting, returning, answers]) => {
+                return Entry::Room(Room {
+                    waiting: *waiting,
+                    returning: *returning,
+                    answers: *answers,
+                });
+            }
             ("after", [variable]) => return Entry::After(*variable),
             _ => {}
         }
@@ -34,34 +50,11 @@ fn entry_of<'a>(line: &'a Line<'_>) -> Entry<'a> {
     call(&line.groups).map_or(Entry::Unreadable, Entry::Call)
 }
 
-// What the lines say of the room for calls.
-#[derive(Clone, Copy)]
-struct Room {
-    waiting: usize,
-    returning: usize,
-    answers: usize,
-}
-
-fn room_of(entries: &[Entry<'_>]) -> Room {
-    let mut room = Room {
-        waiting: 128,
-        returning: 2048,
-        answers: usize::MAX,
-    };
-    for entry in entries {
-        match *entry {
-            Entry::Buffers(waiting, returning) => {
-                room = Room {
-                    waiting,
-                    returning,
-                    ..room
-                };
-            }
-            Entry::Answers(answers) => room = Room { answers, ..room },
-            _ => {}
-        }
+fn room_in(entry: &Entry<'_>) -> Option<Room> {
+    match *entry {
+        Entry::Room(room) => Some(room),
+        _ => None,
     }
-    room
 }
 
 fn call_in<'a>(entry: &Entry<'a>) -> Option<Call<'a>> {
@@ -81,9 +74,8 @@ const NOTHING: Returning = Returning {
 };
 
 // Do the entries past these stand as they were lent?
-fn as_lent_past(buffers: (&[u8], &[Returning]), waiting: usize, returning: usize) -> bool {
-    buffers.0.iter().skip(waiting).all(|w| *w == MARK)
-        && buffers.1.iter().skip(returning).all(|r| *r == NOTHING)
+fn as_lent_past<T: Copy + PartialEq>(buffer: &[T], mark: T, past: usize) -> bool {
+    buffer.iter().skip(past).all(|entry| *entry == mark)
 }
 
 // What a list left.
@@ -105,8 +97,8 @@ fn perform_calls<C: Catalog + Drop>(
     let mut returning = vec![in heap; NOTHING; room.returning]?;
     let mut answers = vec![in heap; Answer::Opened; room.answers.min(calls.len())]?;
     let network = perform(catalog, calls, &mut answers, &mut waiting, &mut returning);
-    let whole = as_lent_past((&waiting, &returning), 0, 0);
-    let past = as_lent_past((&waiting, &returning), 128, 2048);
+    let whole = as_lent_past(&waiting, MARK, 0) && as_lent_past(&returning, NOTHING, 0);
+    let past = as_lent_past(&waiting, MARK, 128) && as_lent_past(&returning, NOTHING, 2048);
     Ok(Left {
         answers,
         as_lent: Told::AsLent(whole, past),
@@ -128,8 +120,7 @@ fn tell_each(
             Entry::Call(_) => answers
                 .next()
                 .map_or(Told::NotMade, |answer| Told::Answer(*answer)),
-            Entry::Buffers(_, _) => left.as_lent,
-            Entry::Answers(_) => Told::Count(left.answers.len()),
+            Entry::Room(_) => left.as_lent,
             Entry::After(variable) => left
                 .domains
                 .get(variable)
@@ -150,6 +141,7 @@ pub fn listed<C: Catalog + Drop>(
     let heap = rt.alloc();
     let entries: Vec<Entry<'_>> = lines.iter().map(entry_of).collect(heap)?;
     let calls: Vec<Call<'_>> = entries.iter().filter_map(call_in).collect(heap)?;
-    let left = perform_calls(heap, catalog, &calls, room_of(&entries))?;
+    let room = entries.iter().find_map(room_in).unwrap_or(ENOUGH);
+    let left = perform_calls(heap, catalog, &calls, room)?;
     tell_each(rt, lines, &entries, &left)
 }
