@@ -1,7 +1,6 @@
-// Calls, read from lines, and answers, in words.
+// Calls, read from lines.
 use crate::words::Group;
-use network::{Answer, Call, Lent};
-use std::fmt;
+use network::{Call, Lent};
 
 // all that there is of the buffers
 const ALL: Lent = Lent {
@@ -28,7 +27,7 @@ fn time(rest: &[Group<'_>]) -> Option<u32> {
         return None;
     };
     match (group.word, group.numbers.as_slice()) {
-        ("at", [time]) => u32::try_from(*time).ok(),
+        ("at", [time]) if *time <= 0xffff_ffff => Some(*time as u32),
         _ => None,
     }
 }
@@ -73,28 +72,5 @@ pub fn call<'a>(groups: &'a [Group<'_>]) -> Option<Call<'a>> {
         ),
         ("wiped", []) => alone(Call::WipedOut, rest),
         _ => None,
-    }
-}
-
-// An answer, in words.
-#[derive(Clone, Copy)]
-pub struct Answered(pub Answer);
-
-impl fmt::Display for Answered {
-    fn fmt<W: fmt::Write>(&self, f: &mut fmt::Formatter<W>) -> fmt::Result {
-        match self.0 {
-            Answer::Opened => write!(f, "opened"),
-            Answer::Changed(change) => write!(f, "{change}"),
-            Answer::Domain(domain) => write!(f, "0x{domain:x}"),
-            Answer::Shown(shown) => write!(f, "{shown}"),
-            Answer::Justified(Some(why)) => {
-                let constraint = why.constraint;
-                let time = why.time;
-                write!(f, "by {constraint} since {time}")
-            }
-            Answer::Wiped(Some(variable)) => write!(f, "{variable}"),
-            Answer::Justified(None) | Answer::Wiped(None) => write!(f, "none"),
-            Answer::Refused(refusal) => write!(f, "{refusal}"),
-        }
     }
 }

@@ -1,4 +1,5 @@
 // The largest domains from scratch.
+use crate::outcome::{Outcome, print_line};
 use crate::words::{Group, Line};
 use catalog::Catalog;
 use scratch::largest_domains;
@@ -34,7 +35,14 @@ fn asked<'a>(groups: &'a [Group<'_>]) -> Option<Request<'a>> {
     }
 }
 
-fn answer<C: Catalog>(rt: &HostRuntime, catalog: &C, request: Request<'_>) -> anyhow::Result<()> {
+fn answer<C: Catalog>(
+    rt: &HostRuntime,
+    catalog: &C,
+    line: &Line<'_>,
+    request: Request<'_>,
+) -> anyhow::Result<()> {
+    let text = line.text;
+    print!(rt; "{text}:")?;
     let mut list = vec![in rt.alloc(); UNTOUCHED; request.entries]?;
     match largest_domains(catalog, request.sizes, request.indices, &mut list) {
         Ok(()) => {
@@ -62,15 +70,9 @@ pub fn largest<C: Catalog>(
     lines: &[Line<'_>],
 ) -> anyhow::Result<()> {
     for line in lines {
-        let text = line.text;
-        if line.is_title() {
-            println!(rt; "{text}")?;
-            continue;
-        }
-        print!(rt; "{text}:")?;
         match asked(&line.groups) {
-            Some(request) => answer(rt, catalog, request)?,
-            None => println!(rt; " unreadable")?,
+            Some(request) => answer(rt, catalog, line, request)?,
+            None => print_line(rt, line, Outcome::Unreadable)?,
         }
     }
     Ok(())

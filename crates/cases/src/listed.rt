@@ -1,5 +1,6 @@
 // A list of calls on a network, performed in one go.
-use crate::call::{Answered, call};
+use crate::call::call;
+use crate::outcome::{Outcome, print_line};
 use crate::words::Line;
 use catalog::Catalog;
 use catalog::refusal::Refusal;
@@ -8,37 +9,62 @@ use network::{Answer, Call, perform};
 use std::alloc::{AllocError, Global};
 use std::array;
 
+// How many entries the buffers have, and how many there are for answers.
+#[derive(Clone, Copy)]
+struct Room {
+    waiting: usize,
+    returning: usize,
+    answers: usize,
+}
+
+const ENOUGH: Room = Room {
+    waiting: 128,
+    returning: 2048,
+    answers: usize::MAX,
+};
+
 // What a line of a list is.
 #[derive(Clone, Copy)]
 enum Entry<'a> {
     Call(Call<'a>),
-    // how many entries the buffers have: 128 and 2,048 where no line says it
-    Buffers(usize, usize),
-    // how many entries there are for answers: as many as calls where no line says it
-    Answers(usize),
+    Room(Room),
     // a variable's domain, asked of the network that comes back
     After(usize),
+    Unreadable,
 }
 
-fn entry_of<'a>(line: &'a Line<'_>) -> Option<Entry<'a>> {
+fn entry_of<'a>(line: &'a Line<'_>) -> Entry<'a> {
     if let [group] = line.groups.as_slice() {
         match (group.word, group.numbers.as_slice()) {
-            ("buffers", [waiting, returning]) => return Some(Entry::Buffers(*waiting, *returning)),
-            ("answers", [count]) => return Some(Entry::Answers(*count)),
-            ("after", [variable]) => return Some(Entry::After(*variable)),
+            ("room", [waiting, returning, answers]) => {
+                return Entry::Room(Room {
+                    waiting: *waiting,
+                    returning: *returning,
+                    answers: *answers,
+                });
+            }
+            ("after", [variable]) => return Entry::After(*variable),
             _ => {}
         }
     }
-    call(&line.groups).map(Entry::Call)
+    call(&line.groups).map_or(Entry::Unreadable, Entry::Call)
 }
 
-// Buffers, full of what no change writes.
-#[derive(Drop)]
-struct Buffers {
-    waiting: Vec<u8>,
-    returning: Vec<Returning>,
+fn room_in(entry: &Entry<'_>) -> Option<Room> {
+    match *entry {
+        Entry::Room(room) => Some(room),
+        _ => None,
+    }
 }
 
+fn call_in<'a>(entry: &Entry<'a>) -> Option<Call<'a>> {
+    match *entry {
+        Entry::Call(call) => Some(call),
+        _ => None,
+    }
+}
+
+// Buffers are full of what no change writes.
 const MARK: u8 = 255;
 
 const NOTHING: Returning = Returning {
@@ -47,100 +73,61 @@ const NOTHING: Returning = Returning {
     time: 0,
 };
 
-impl Buffers {
-    fn new(heap: Global, waiting: usize, returning: usize) -> Result<Buffers, AllocError> {
-        Ok(Buffers {
-            waiting: vec![in heap; MARK; waiting]?,
-            returning: vec![in heap; NOTHING; returning]?,
-        })
-    }
-
-    // Do the entries past these stand as they were lent?
-    fn as_lent_past(&self, waiting: usize, returning: usize) -> bool {
-        self.waiting.iter().skip(waiting).all(|w| *w == MARK)
-            && self.returning.iter().skip(returning).all(|r| *r == NOTHING)
-    }
+// Do the entries past these stand as they were lent?
+fn as_lent_past<T: Copy + PartialEq>(buffer: &[T], mark: T, past: usize) -> bool {
+    buffer.iter().skip(past).all(|entry| *entry == mark)
 }
 
 // What a list left.
 #[derive(Drop)]
 struct Left {
     answers: Vec<Answer>,
-    buffers: Buffers,
+    as_lent: Outcome,
     // of the network that came back
-    domains: [Result<u64, Refusal>; 32],
+    domains: [Answer; 32],
 }
 
-fn made<C: Catalog + Drop>(
+fn perform_calls<C: Catalog + Drop>(
     heap: Global,
     catalog: C,
-    entries: &[Option<Entry<'_>>],
+    calls: &[Call<'_>],
+    room: Room,
 ) -> Result<Left, AllocError> {
-    let mut calls = Vec::new(heap);
-    let mut buffers = Buffers::new(heap, 128, 2048)?;
-    let mut answered = usize::MAX;
-    for entry in entries {
-        match *entry {
-            Some(Entry::Call(call)) => calls.push(call)?,
-            Some(Entry::Buffers(waiting, returning)) => {
-                buffers = Buffers::new(heap, waiting, returning)?;
-            }
-            Some(Entry::Answers(count)) => answered = count,
-            Some(Entry::After(_)) | None => {}
-        }
-    }
-    let mut answers = vec![in heap; Answer::Opened; answered.min(calls.len())]?;
-    let network = perform(
-        catalog,
-        &calls,
-        &mut answers,
-        &mut buffers.waiting,
-        &mut buffers.returning,
-    );
+    let mut waiting = vec![in heap; MARK; room.waiting]?;
+    let mut returning = vec![in heap; NOTHING; room.returning]?;
+    let mut answers = vec![in heap; Answer::Opened; room.answers.min(calls.len())]?;
+    let network = perform(catalog, calls, &mut answers, &mut waiting, &mut returning);
+    let whole = as_lent_past(&waiting, MARK, 0) && as_lent_past(&returning, NOTHING, 0);
+    let past = as_lent_past(&waiting, MARK, 128) && as_lent_past(&returning, NOTHING, 2048);
     Ok(Left {
         answers,
-        buffers,
-        domains: array::from_fn(|i| network.domain(i)),
+        as_lent: Outcome::AsLent(whole, past),
+        domains: array::from_fn(|i| network
+            .domain(i)
+            .map_or_else(Answer::Refused, Answer::Domain)),
     })
 }
 
-fn tell(
+fn print_each(
     rt: &HostRuntime,
     lines: &[Line<'_>],
-    entries: &[Option<Entry<'_>>],
+    entries: &[Entry<'_>],
     left: &Left,
 ) -> anyhow::Result<()> {
     let mut answers = left.answers.iter();
     for (line, entry) in lines.iter().zip(entries) {
-        let text = line.text;
-        if line.is_title() {
-            println!(rt; "{text}")?;
-            continue;
-        }
-        print!(rt; "{text}: ")?;
-        match *entry {
-            Some(Entry::Call(_)) => match answers.next() {
-                Some(answer) => {
-                    let answer = Answered(*answer);
-                    println!(rt; "{answer}")?;
-                }
-                None => println!(rt; "not made")?,
-            }
-            Some(Entry::Buffers(_, _)) => {
-                let whole = left.buffers.as_lent_past(0, 0);
-                let past = left.buffers.as_lent_past(128, 2048);
-                println!(rt; "as lent {whole}, past 128 and 2048 {past}")?;
-            }
-            Some(Entry::Answers(_)) => {
-                let count = left.answers.len();
-                println!(rt; "{count}")?;
-            }
-            Some(Entry::After(variable)) => match left.domains.get(variable) {
-                Some(Ok(domain)) => println!(rt; "0x{domain:x}")?,
-                _ => println!(rt; "none")?,
-            },
-            None => println!(rt; "unreadable")?,
-        }
+        let outcome = match *entry {
+            Entry::Call(_) => answers
+                .next()
+                .map_or(Outcome::NotMade, |answer| Outcome::Answer(*answer)),
+            Entry::Room(_) => left.as_lent,
+            Entry::After(variable) => left
+                .domains
+                .get(variable)
+                .map_or(Outcome::Unreadable, |domain| Outcome::Answer(*domain)),
+            Entry::Unreadable => Outcome::Unreadable,
+        };
+        print_line(rt, line, outcome)?;
     }
     Ok(())
 }
@@ -152,7 +139,9 @@ pub fn listed<C: Catalog + Drop>(
     lines: &[Line<'_>],
 ) -> anyhow::Result<()> {
     let heap = rt.alloc();
-    let entries: Vec<Option<Entry<'_>>> = lines.iter().map(entry_of).collect(heap)?;
-    let left = made(heap, catalog, &entries)?;
-    tell(rt, lines, &entries, &left)
+    let entries: Vec<Entry<'_>> = lines.iter().map(entry_of).collect(heap)?;
+    let calls: Vec<Call<'_>> = entries.iter().filter_map(call_in).collect(heap)?;
+    let room = entries.iter().find_map(room_in).unwrap_or(ENOUGH);
+    let left = perform_calls(heap, catalog, &calls, room)?;
+    print_each(rt, lines, &entries, &left)
 }

@@ -1,5 +1,5 @@
 // Reads cases from standard input and prints what comes of each: calls on a network, and the largest domains worked out from scratch. Each line is printed again
-// with a colon and its answer, `unreadable` where it cannot be read; one that begins with `#` is a title, and is printed as it is.
+// with a colon and its answer, `unreadable` where it cannot be read; one whose first word is `#` is a title, and is printed as it is.
 //
 // Cases stand in blocks, parted by an empty line. The first line of a block names what is done and on which catalog, and is answered by the count of its
 // constraints. Of a `network` the calls of a block are one list, performed in one go, each lent its own part of the buffers; in `scratch` each line is worked out
@@ -13,22 +13,22 @@
 //         chain-house numbered N..      the chain renumbered, then the house
 //         ladder-house N numbered N..   a ladder, then the house renumbered
 //         tables                        the lines that come next, up to 48:
-//     table LEFT RIGHT rows SET..       for each value of the left end the values of the right end beside it
+//     table LEFT RIGHT rows SET..       for each value of the left end those of the right end beside it; answered by its index
 //
 //     largest SIZE.. under INDEX.. into N   the largest domains, written into a list of N entries: these, the wiped-out variable, and how many entries are kept
 //
 //     open SIZE.. at TIME               the calls on a network
 //     add INDEX, retract INDEX          each perhaps with `lent N N`, of the buffers for what waits and what returns; all of them where nothing is said
 //     domain VARIABLE, shown VARIABLE VALUE, why VARIABLE VALUE, wiped
-//     buffers N N                       how long the buffers are, 128 and 2048 where no line says it. It tells whether all their entries were in the end as they
-//                                       were lent, and whether those past 128 and 2048 were
-//     answers N                         how many calls there is room for the answers of, all where no line says it; it tells how many were made
+//     room WAITING RETURNING ANSWERS    how many entries the two buffers and the list of answers have: 128, 2048 and enough where no line says it. It tells whether
+//                                       all entries of the buffers were in the end as they were lent, and whether those past 128 and 2048 were
 //     after VARIABLE                    a domain, asked of the network that comes back
 #![tactic(auto)]
 
 mod call;
 mod largest;
 mod listed;
+mod outcome;
 mod tables;
 mod words;
 
@@ -39,6 +39,7 @@ use catalog::renumbered::Renumbered;
 use house::HouseCatalog;
 use largest::largest;
 use listed::listed;
+use outcome::{Outcome, print_line};
 use samples::Sample;
 use samples::ladder::Ladder;
 use std::io::read_to_string;
@@ -70,11 +71,9 @@ struct Block<'a, 'b> {
 
 // Says so of each line of a block whose first line cannot be read.
 fn unreadable(rt: &HostRuntime, block: Block<'_, '_>) -> anyhow::Result<()> {
-    let text = block.head.text;
-    println!(rt; "{text}: unreadable")?;
+    print_line(rt, block.head, Outcome::Unreadable)?;
     for line in block.lines {
-        let text = line.text;
-        println!(rt; "{text}: unreadable")?;
+        print_line(rt, line, Outcome::Unreadable)?;
     }
     Ok(())
 }
@@ -84,12 +83,9 @@ fn on<C: Catalog + Drop>(rt: &HostRuntime, block: Block<'_, '_>, catalog: C) -> 
     let Some(task) = task_of(block.head) else {
         return unreadable(rt, block);
     };
-    let text = block.head.text;
-    let count = catalog.count();
-    println!(rt; "{text}: {count} constraints")?;
-    for table in block.tables {
-        let text = table.text;
-        println!(rt; "{text}: a constraint")?;
+    print_line(rt, block.head, Outcome::Count(catalog.count()))?;
+    for (p, table) in block.tables.iter().enumerate() {
+        print_line(rt, table, Outcome::Count(p))?;
     }
     match task {
         Task::Network => listed(rt, catalog, block.lines),

@@ -40,6 +40,9 @@ impl Line<'_> {
 
     // Is it there for the reader alone?
     pub fn is_title(&self) -> bool {
-        self.text.starts_with('#')
+        match self.groups.as_slice() {
+            [first, ..] => first.word == "#",
+            [] => false,
+        }
     }
 }
