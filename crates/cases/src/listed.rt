@@ -11,13 +11,13 @@ use std::array;
 
 // How many entries the buffers have, and how many there are for answers.
 #[derive(Clone, Copy)]
-struct Room {
+struct Lengths {
     waiting: usize,
     returning: usize,
     answers: usize,
 }
 
-const ENOUGH: Room = Room {
+const ENOUGH: Lengths = Lengths {
     waiting: 128,
     returning: 2048,
     answers: usize::MAX,
@@ -27,7 +27,7 @@ const ENOUGH: Room = Room {
 #[derive(Clone, Copy)]
 enum Entry<'a> {
     Call(Call<'a>),
-    Room(Room),
+    Lengths(Lengths),
     // a variable's domain, asked of the network that comes back
     After(usize),
     Unreadable,
@@ -36,8 +36,8 @@ enum Entry<'a> {
 fn entry_of<'a>(line: &'a Line<'_>) -> Entry<'a> {
     if let [group] = line.groups.as_slice() {
         match (group.word, group.numbers.as_slice()) {
-            ("room", [waiting, returning, answers]) => {
-                return Entry::Room(Room {
+            ("lengths", [waiting, returning, answers]) => {
+                return Entry::Lengths(Lengths {
                     waiting: *waiting,
                     returning: *returning,
                     answers: *answers,
@@ -50,9 +50,9 @@ fn entry_of<'a>(line: &'a Line<'_>) -> Entry<'a> {
     call(&line.groups).map_or(Entry::Unreadable, Entry::Call)
 }
 
-fn room_in(entry: &Entry<'_>) -> Option<Room> {
+fn lengths_in(entry: &Entry<'_>) -> Option<Lengths> {
     match *entry {
-        Entry::Room(room) => Some(room),
+        Entry::Lengths(lengths) => Some(lengths),
         _ => None,
     }
 }
@@ -91,11 +91,11 @@ fn perform_calls<C: Catalog + Drop>(
     heap: Global,
     catalog: C,
     calls: &[Call<'_>],
-    room: Room,
+    lengths: Lengths,
 ) -> Result<Left, AllocError> {
-    let mut waiting = vec![in heap; MARK; room.waiting]?;
-    let mut returning = vec![in heap; NOTHING; room.returning]?;
-    let mut answers = vec![in heap; Answer::Opened; room.answers.min(calls.len())]?;
+    let mut waiting = vec![in heap; MARK; lengths.waiting]?;
+    let mut returning = vec![in heap; NOTHING; lengths.returning]?;
+    let mut answers = vec![in heap; Answer::Opened; lengths.answers.min(calls.len())]?;
     let network = perform(catalog, calls, &mut answers, &mut waiting, &mut returning);
     let whole = as_lent_past(&waiting, MARK, 0) && as_lent_past(&returning, NOTHING, 0);
     let past = as_lent_past(&waiting, MARK, 128) && as_lent_past(&returning, NOTHING, 2048);
@@ -120,7 +120,7 @@ fn print_each(
             Entry::Call(_) => answers
                 .next()
                 .map_or(Outcome::NotMade, |answer| Outcome::Answer(*answer)),
-            Entry::Room(_) => left.as_lent,
+            Entry::Lengths(_) => left.as_lent,
             Entry::After(variable) => left
                 .domains
                 .get(variable)
@@ -141,7 +141,7 @@ pub fn listed<C: Catalog + Drop>(
     let heap = rt.alloc();
     let entries: Vec<Entry<'_>> = lines.iter().map(entry_of).collect(heap)?;
     let calls: Vec<Call<'_>> = entries.iter().filter_map(call_in).collect(heap)?;
-    let room = entries.iter().find_map(room_in).unwrap_or(ENOUGH);
-    let left = perform_calls(heap, catalog, &calls, room)?;
+    let lengths = entries.iter().find_map(lengths_in).unwrap_or(ENOUGH);
+    let left = perform_calls(heap, catalog, &calls, lengths)?;
     print_each(rt, lines, &entries, &left)
 }

@@ -20,7 +20,7 @@
 //     open SIZE.. at TIME               the calls on a network
 //     add INDEX, retract INDEX          each perhaps with `lent N N`, of the buffers for what waits and what returns; all of them where nothing is said
 //     domain VARIABLE, shown VARIABLE VALUE, why VARIABLE VALUE, wiped
-//     room WAITING RETURNING ANSWERS    how many entries the two buffers and the list of answers have: 128, 2048 and enough where no line says it. It tells whether
+//     lengths WAITING RETURNING ANSWERS how many entries the two buffers and the list of answers have: 128, 2048 and enough where no line says it. It tells whether
 //                                       all entries of the buffers were in the end as they were lent, and whether those past 128 and 2048 were
 //     after VARIABLE                    a domain, asked of the network that comes back
 #![tactic(auto)]
