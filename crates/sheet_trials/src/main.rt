@@ -8,10 +8,12 @@ mod outcome;
 use catalog::Catalog;
 use mixed::MIXED;
 use outcome::made;
-use samples::chain_sheet;
-use sheet::{Accepted, Move, moves_of};
+use sheet::Accepted;
+use sheet_catalog::SheetCatalog;
+use sheet::{Move, moves_of};
+use sheet_catalog::combined_of;
 use sheet_catalog::sizes::Sizes;
-use sheet_catalog::{SheetCatalog, combined_of};
+use samples::chain_sheet;
 use std::io;
 
 // A sheet, and the sizes of its variables in its own order.

@@ -1,10 +1,6 @@
 // One list of calls: after each of them every party is to tell the same.
-use crate::checks::{check_answer, check_done, check_unasked};
-use crate::draws::Draws;
-use crate::first::First;
-use crate::second::Second;
 use catalog::Catalog;
-use catalog::refusal::Refusal;
+use drawing::Draws;
 use judging::book::{Book, Call, may_open};
 use judging::expected;
 use judging::judge::Judge;
@@ -12,6 +8,10 @@ use judging::met::Met;
 use judging::reported::Reported;
 use judging::trouble::Trouble;
 use network::Change;
+use parties::checks::{check_answer, check_done, check_refused, check_unasked};
+use parties::first::First;
+use parties::second::Second;
+use catalog::refusal::Refusal;
 use std::alloc::Global;
 use supports::wiped_out;
 
@@ -82,7 +82,7 @@ impl<'a, C: Catalog> Trial<'a, C> {
 
     // Does the second solver tell the domains from scratch, with every value that is out justified?
     fn check_second(&self, parties: &Parties<'a, C>) -> Result<(), Trouble> {
-        let reported = parties.second.tell(self.draws.heap, &parties.book)?;
+        let reported = parties.second.report(self.draws.heap, &parties.book)?;
         if !reported.has_domains(&parties.domains) {
             return Err(Trouble::SecondDomains);
         }
@@ -108,7 +108,7 @@ impl<'a, C: Catalog> Trial<'a, C> {
         let book = Book::open(heap, sizes, time)?;
         let parties = Parties {
             domains: expected::domains(heap, self.catalog, &book)?,
-            reported: self.first.tell(heap, &book)?,
+            reported: self.first.report(heap, &book)?,
             book,
             second,
         };
@@ -123,7 +123,7 @@ impl<'a, C: Catalog> Trial<'a, C> {
         retracted: Option<usize>,
     ) -> Result<(), Trouble> {
         let heap = self.draws.heap;
-        let reported = self.first.tell(heap, &parties.book)?;
+        let reported = self.first.report(heap, &parties.book)?;
         let before = self.judge(&parties.book, &parties.reported);
         check_kept(heap, &before, &reported, retracted)?;
         parties.reported = reported;
@@ -170,9 +170,7 @@ impl<'a, C: Catalog> Trial<'a, C> {
         let time = self.draws.time();
         let due = may_open(&sizes);
         self.met = self.met.with(due.err());
-        if due.is_ok() || self.first.open(&sizes, time) != due {
-            return Err(Trouble::OtherCause);
-        }
+        check_refused(self.first.open(&sizes, time), due)?;
         self.replace_reported(parties, None)?;
         self.check_first(parties)
     }

@@ -5,13 +5,13 @@
 mod makes;
 
 use bits::Values;
+use drawing::{Draws, Shape};
 use judging::met::Met;
 use judging::trouble::Trouble;
 use makes::Make;
 use random::Random;
 use std::alloc::Global;
 use std::io;
-use trial::{Draws, Shape};
 
 // Lists of calls, from one seed.
 #[derive(Clone, Copy)]

@@ -1,13 +1,14 @@
 // Lists of calls on catalogs of several makes.
 use catalog::joined::Joined;
 use catalog::renumbered::Renumbered;
+use drawing::{Draws, Shape};
 use house::HouseCatalog;
 use judging::met::Met;
 use judging::trouble::Trouble;
 use random::density::Density;
 use random::made;
 use samples::ladder::Ladder;
-use trial::{Draws, Shape, list};
+use trial::list;
 
 // Of what make the catalog of a list is.
 #[derive(Clone, Copy)]

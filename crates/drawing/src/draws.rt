@@ -43,7 +43,7 @@ pub struct Draws<'a> {
 
 impl Draws<'_> {
     // Sizes for as many variables, or now and then for one fewer.
-    pub(crate) fn sizes(&mut self) -> Result<Vec<usize>, AllocError> {
+    pub fn sizes(&mut self) -> Result<Vec<usize>, AllocError> {
         let Shape {
             variables,
             values,
@@ -57,7 +57,7 @@ impl Draws<'_> {
     }
 
     // Sizes of which an opening is refused: none, 33, or some of which one is 0 or 65.
-    pub(crate) fn bad_sizes(&mut self) -> Result<Vec<usize>, AllocError> {
+    pub fn bad_sizes(&mut self) -> Result<Vec<usize>, AllocError> {
         match self.random.below(4) {
             0 => Ok(Vec::new(self.heap)),
             1 => vec![in self.heap; 1; 33],
@@ -73,7 +73,7 @@ impl Draws<'_> {
     }
 
     // A first time: mostly one that leaves enough, and now and then one around the last time, or at the end.
-    pub(crate) fn time(&mut self) -> u32 {
+    pub fn time(&mut self) -> u32 {
         match self.random.below(12) {
             0 => LAST_TIME - 30 + self.random.below(60) as u32,
             1 => u32::MAX - self.random.below(2) as u32,
@@ -82,7 +82,7 @@ impl Draws<'_> {
     }
 
     // How much of the buffers a call is lent: mostly just enough.
-    pub(crate) fn lent(&mut self) -> Lent {
+    pub fn lent(&mut self) -> Lent {
         let kinds = if self.random.below(6) == 0 { 5 } else { 1 };
         Lent {
             waiting: WAITING[self.random.below(kinds)],
@@ -97,7 +97,7 @@ impl Draws<'_> {
     }
 
     // A call: mostly what is out is added and what is in retracted.
-    pub(crate) fn call(&mut self, book: &Book, count: usize) -> Call {
+    pub fn call(&mut self, book: &Book, count: usize) -> Call {
         let p = self.constraint(count);
         let usual = self.random.below(8) != 0;
         if book.is_in(p) != usual {
@@ -108,7 +108,7 @@ impl Draws<'_> {
     }
 
     // A value to ask about, often one that is not there.
-    pub(crate) fn value(&mut self, book: &Book) -> Value {
+    pub fn value(&mut self, book: &Book) -> Value {
         let variable = self.random.below(book.sizes.len() + 2);
         let value = self.random.below(book.size(variable).saturating_add(2));
         Value { variable, value }

@@ -67,7 +67,7 @@ impl<'a, C: Catalog> Second<'a, C> {
     }
 
     // The solver names only the neighbour of a value that is out: the account is the first constraint to that neighbour that holds, if any does.
-    pub fn tell(&self, heap: Global, book: &Book) -> Result<Reported, AllocError> {
+    pub fn report(&self, heap: Global, book: &Book) -> Result<Reported, AllocError> {
         let mut reported = self.times(heap, book)?;
         for value in &book.values {
             if let Some(why) = self.solver.justification(value.variable, value.value) {

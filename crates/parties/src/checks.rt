@@ -1,8 +1,8 @@
 // Whether the solvers did what is due.
 use acdc2::fault::Fault;
-use catalog::refusal::Refusal;
 use judging::trouble::Trouble;
 use network::Change;
+use catalog::refusal::Refusal;
 
 // Is a change the one that is due: the number of values that went or came back, and the wiped-out variable?
 pub fn check_change(change: Change, due: Change) -> Result<(), Trouble> {
@@ -34,6 +34,14 @@ pub fn check_done(done: Result<(), Fault>, due: Option<Refusal>) -> Result<(), T
         (Ok(()), None) => Ok(()),
         (Err(Fault::Refused(cause)), Some(other)) if cause == other => Ok(()),
         _ => Err(Trouble::SecondCause),
+    }
+}
+
+// Did the network refuse an opening by the cause that is due?
+pub fn check_refused(opened: Result<(), Refusal>, due: Result<(), Refusal>) -> Result<(), Trouble> {
+    match (opened, due) {
+        (Err(cause), Err(other)) if cause == other => Ok(()),
+        _ => Err(Trouble::OtherCause),
     }
 }
 

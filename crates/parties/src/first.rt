@@ -1,12 +1,13 @@
 // What the network tells.
 use crate::borrowed::Borrowed;
 use catalog::Catalog;
-use catalog::refusal::Refusal;
 use domains::Returning;
 use judging::book::{Book, Call, Value};
 use judging::reported::{Account, Reported};
 use judging::trouble::Trouble;
-use network::{Answer, Change, Lent, Network};
+use network::{Lent, Network};
+use network::{Answer, Change};
+use catalog::refusal::Refusal;
 use std::alloc::{AllocError, Global};
 
 // A network, and the buffers of which it is lent a part at each change: two literals, in lists. With arrays here the borrow checker has no rule yet for the call of
@@ -99,7 +100,7 @@ impl<'a, C: Catalog> First<'a, C> {
     }
 
     // Asks everything that can be asked. A variable is its number, by which the network is asked.
-    pub fn tell(&self, heap: Global, book: &Book) -> Result<Reported, Trouble> {
+    pub fn report(&self, heap: Global, book: &Book) -> Result<Reported, Trouble> {
         let mut reported = Reported::new(heap);
         for variable in book.variables() {
             reported.add_domain(self.network.domain(variable)?)?;
