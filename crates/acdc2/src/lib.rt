@@ -19,9 +19,9 @@ ghost use Rattle.acdc2.specs.State.{Opened, domain_of, why_of};
 ghost use Rattle.acdc2.specs.declared.fault.Fault.TheVariants.{Refused};
 
 use catalog::Catalog;
+use catalog::refusal::Refusal;
 use fault::Fault;
 use marks::Marks;
-use catalog::refusal::Refusal;
 use state::{Justification, State};
 use std::alloc::{AllocError, Global};
 

@@ -2,8 +2,8 @@
 use crate::outcome::{Outcome, print_line};
 use crate::words::{Group, Line};
 use catalog::Catalog;
+use catalog::supports::wiped_out;
 use scratch::largest_domains;
-use supports::wiped_out;
 
 // What the result list holds before the call: no case has these domains.
 const UNTOUCHED: u64 = 0x5555_5555_5555_5555;

@@ -11,6 +11,7 @@ pub mod joined;
 pub mod numbering;
 pub mod refusal;
 pub mod renumbered;
+pub mod supports;
 
 // At most 128 constraints, each between two different variables below 32. Each answer is the meaning's, and no question alters
 // the catalog, so that it answers the same however often it is asked.

@@ -4,8 +4,8 @@ use Rattle.std.proofs.lemmas.Bool.{ltb-true, lt-ltb, cases_lt, both_ways, eq-eqb
 use Rattle.arcs.specs.Family.{Inside}
 use Rattle.bits.specs.Bits.{has_bit}
 use Rattle.arcs.specs.Standing.{Out, Rests, names, through}
-use Rattle.queue.specs.declared.fifo.Queue.{Queue}
-use Rattle.queue.specs.Waiting.{waits}
+use Rattle.engine.specs.declared.fifo.Queue.{Queue}
+use Rattle.engine.specs.Waiting.{waits}
 use Rattle.domains.specs.declared.Arc.{Arc}
 use Rattle.domains.specs.declared.Constraints.{Constraints}
 use Rattle.domains.specs.declared.Domains.{Domains}

@@ -6,8 +6,8 @@ use Rattle.bits.specs.Bits.{has_bit}
 use Rattle.arcs.specs.Standing.{Out, Rests}
 use Rattle.arcs.specs.Changes.{PutBack}
 use Rattle.engine.proofs.Kept.{kept_trans}
-use Rattle.queue.specs.declared.fifo.Queue.{Queue}
-use Rattle.queue.specs.Waiting.{waits, Kept}
+use Rattle.engine.specs.declared.fifo.Queue.{Queue}
+use Rattle.engine.specs.Waiting.{waits, Kept}
 use Rattle.domains.specs.declared.Constraints.{Constraints}
 use Rattle.domains.specs.declared.Domains.{Domains}
 use Rattle.domains.specs.declared.Justification.{Justification}

@@ -1,7 +1,7 @@
 -- What a queue keeps of its buffer over one call after another.
 use Rattle.std.proofs.Common.{drop, sym, ap, ◌∙◌}
-use Rattle.queue.specs.declared.fifo.Queue.{Queue}
-use Rattle.queue.specs.Waiting.{Kept}
+use Rattle.engine.specs.declared.fifo.Queue.{Queue}
+use Rattle.engine.specs.Waiting.{Kept}
 
 pub kept_trans : {T : Type 0} (q q' q'' : Queue T) → Kept q q' → Kept q' q'' → Kept q q''
 kept_trans q q' q'' a b =

@@ -4,3 +4,4 @@ pub mod Start
 pub mod Called
 pub mod Frees
 pub mod Beside
+pub mod Turns

@@ -2,8 +2,8 @@
 use Rattle.std.proofs.Common.{◌≡◌, ℕ, zero, suc, ◌≤◌, min, Bool, false, List, [], length, get_or, drop, replicate, sym, refl, ap, ◌∙◌, ⊎_elim, arith}
 use Rattle.std.proofs.lemmas.List.{get_or-replicate, get_or_past, length-replicate}
 use Rattle.std.proofs.lemmas.Bool.{cases_lt}
-use Rattle.queue.specs.declared.fifo.Queue.{Queue}
-use Rattle.queue.specs.Waiting.{waits, Kept}
+use Rattle.engine.specs.declared.fifo.Queue.{Queue}
+use Rattle.engine.specs.Waiting.{waits, Kept}
 use Rattle.domains.specs.Stands.{Past}
 use Rattle.engine.specs.Queued.{number, often, marked, Queued}
 

@@ -1,3 +1,4 @@
 pub mod Queued
 pub mod Returns
 pub mod Calls
+pub mod Waiting

@@ -1,7 +1,7 @@
 -- Constraints that wait to be visited: each stands in the queue at most once, and is marked while it does.
 use Rattle.std.specs.Prelude.{◌≡◌, ℕ, ◌+◌, Bool, false, cond, List, [], ◌∷◌, length, ◌==◌, slice_index_or}
-use Rattle.queue.specs.declared.fifo.Queue.{Queue}
-use Rattle.queue.specs.Waiting.{waits}
+use Rattle.engine.specs.declared.fifo.Queue.{Queue}
+use Rattle.engine.specs.Waiting.{waits}
 
 -- 1 for yes and 0 for no
 abbrev pub number : Bool → ℕ

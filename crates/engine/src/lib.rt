@@ -2,6 +2,7 @@
 #![tactic(auto)]
 
 mod fault;
+mod fifo;
 mod propagate;
 mod release;
 mod revise;
@@ -10,4 +11,5 @@ mod value;
 mod values;
 
 pub use fault::LoadFault;
+pub use fifo::Queue;
 pub use state::Engine;

@@ -7,14 +7,14 @@
 // of one number would be wrapped where it comes from the queue's bytes, a loop or an arc, and unwrapped in each clause that names it, nearly all of these.
 ghost use Rattle.std.specs.Prelude.{◌≡◌, ℕ, ◌+◌, ◌^◌, ◌<◌, ◌≤◌, true, false, ◌≢◌, Some, slice_index_or, slice_set};
 ghost use Rattle.arcs.specs.Family.{Consistent};
-ghost use Rattle.queue.specs.Waiting.{Kept};
+ghost use Rattle.engine.specs.Waiting.{Kept};
 ghost use Rattle.domains.specs.Model.{arcs_of, shown, total};
 ghost use Rattle.domains.specs.Sound.{Facing, Revising, Settled, SettledBut, Shape, Sound, Went};
 ghost use Rattle.engine.specs.Queued.{Queued};
 
+use crate::fifo::Queue;
 use crate::revise::{arc_at, revise};
 use domains::{Arc, Constraints, Domains};
-use queue::Queue;
 
 // Does the constraint, if it is in, tie the variable?
 pub(crate) fn ties(c: &Constraints, variable: usize, constraint: usize) -> bool

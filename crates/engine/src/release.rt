@@ -2,18 +2,18 @@
 ghost use Rattle.std.specs.Prelude.{◌≡◌, ℕ, ◌+◌, ◌<◌, ◌≤◌, true, false, not, ◌&&◌, [], ◌∷◌, ◌++◌, ◌==◌};
 ghost use Rattle.arcs.specs.Family.{Inside};
 ghost use Rattle.arcs.specs.Changes.{PutBack, Released};
-ghost use Rattle.queue.specs.Waiting.{Kept, waits};
+ghost use Rattle.engine.specs.Waiting.{Kept, waits};
 ghost use Rattle.bits.specs.Bits.{has_bit};
 ghost use Rattle.domains.specs.Model.{arcs_of, entry, is_present, reason_is, row, shown, standing, total, within};
 ghost use Rattle.domains.specs.Releasing.{Followed, Low, Releasing};
 ghost use Rattle.domains.specs.Sound.{Facing, Shape, Sound};
 ghost use Rattle.engine.specs.Returns.{FreesAmong, Grew, Spare};
 
+use crate::fifo::Queue;
 use crate::revise::arc_at;
 use crate::value::Value;
 use crate::values::put_back;
 use domains::{Arc, Constraints, Domains, Ends, Returning};
-use queue::Queue;
 
 // Is the value out, with a justification that names the constraint?
 pub(crate) fn names(d: &Domains, at: Value, constraint: usize) -> bool

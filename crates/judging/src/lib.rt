@@ -8,8 +8,8 @@ mod clock;
 pub mod expected;
 pub mod judge;
 pub mod met;
-pub mod rests;
 pub mod reported;
+pub mod rests;
 pub mod trouble;
 
 pub use clock::LAST_TIME;

@@ -3,15 +3,14 @@ use crate::checks::{check_change, check_done};
 use crate::first::First;
 use crate::second::Second;
 use catalog::Catalog;
+use catalog::refusal::Refusal;
+use catalog::supports::wiped_out;
 use judging::book::Call;
 use judging::expected::differing;
 use judging::trouble::Trouble;
-use network::Lent;
-use network::Change;
-use catalog::refusal::Refusal;
+use network::{Change, Lent};
 use std::alloc::Global;
 use std::array;
-use supports::wiped_out;
 
 // Just enough of the buffers.
 const ENOUGH: Lent = Lent {

@@ -1,8 +1,8 @@
 // Whether the solvers did what is due.
 use acdc2::fault::Fault;
+use catalog::refusal::Refusal;
 use judging::trouble::Trouble;
 use network::Change;
-use catalog::refusal::Refusal;
 
 // Is a change the one that is due: the number of values that went or came back, and the wiped-out variable?
 pub fn check_change(change: Change, due: Change) -> Result<(), Trouble> {

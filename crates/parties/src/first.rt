@@ -1,13 +1,12 @@
 // What the network tells.
 use crate::borrowed::Borrowed;
 use catalog::Catalog;
+use catalog::refusal::Refusal;
 use domains::Returning;
 use judging::book::{Book, Call, Value};
 use judging::reported::{Account, Reported};
 use judging::trouble::Trouble;
-use network::{Lent, Network};
-use network::{Answer, Change};
-use catalog::refusal::Refusal;
+use network::{Answer, Change, Lent, Network};
 use std::alloc::{AllocError, Global};
 
 // A network, and the buffers of which it is lent a part at each change: two literals, in lists. With arrays here the borrow checker has no rule yet for the call of

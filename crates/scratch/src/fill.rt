@@ -20,7 +20,7 @@ impl Arc {
         Arc {
             near: self.far,
             far: self.near,
-            rows: supports::turned(&self.rows),
+            rows: catalog::supports::turned(&self.rows),
         }
     }
 }
@@ -39,7 +39,7 @@ impl<C: Catalog> Request<'_, C> {
             let there = Arc {
                 near: a,
                 far: b,
-                rows: supports::rows(self.catalog, p, self.sizes[a], self.sizes[b]),
+                rows: catalog::supports::rows(self.catalog, p, self.sizes[a], self.sizes[b]),
             };
             arcs[2 * p] = Some(there);
             arcs[2 * p + 1] = Some(there.turned());

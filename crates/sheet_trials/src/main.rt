@@ -8,12 +8,10 @@ mod outcome;
 use catalog::Catalog;
 use mixed::MIXED;
 use outcome::made;
-use sheet::Accepted;
-use sheet_catalog::SheetCatalog;
-use sheet::{Move, moves_of};
-use sheet_catalog::combined_of;
-use sheet_catalog::sizes::Sizes;
 use samples::chain_sheet;
+use sheet::{Accepted, Move, moves_of};
+use sheet_catalog::sizes::Sizes;
+use sheet_catalog::{SheetCatalog, combined_of};
 use std::io;
 
 // A sheet, and the sizes of its variables in its own order.

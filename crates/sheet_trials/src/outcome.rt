@@ -1,10 +1,10 @@
 // What comes of a sheet's moves on both solvers.
 use catalog::Catalog;
+use catalog::refusal::Refusal;
 use judging::book::Call;
 use judging::trouble::Trouble;
 use network::Change;
 use parties::both::Both;
-use catalog::refusal::Refusal;
 use runner::domain_line;
 use sheet::Move;
 use std::alloc::Global;

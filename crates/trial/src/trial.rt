@@ -1,5 +1,7 @@
 // One list of calls: after each of them every party is to tell the same.
 use catalog::Catalog;
+use catalog::refusal::Refusal;
+use catalog::supports::wiped_out;
 use drawing::Draws;
 use judging::book::{Book, Call, may_open};
 use judging::expected;
@@ -11,9 +13,7 @@ use network::Change;
 use parties::checks::{check_answer, check_done, check_refused, check_unasked};
 use parties::first::First;
 use parties::second::Second;
-use catalog::refusal::Refusal;
 use std::alloc::Global;
-use supports::wiped_out;
 
 // After an opening: the book that the trials keep, what stood after the last call by the computation from scratch and by the network, and the
 // second solver.

@@ -3,17 +3,17 @@ ghost use Rattle.std.specs.Prelude.{◌≡◌, ℕ, ◌+◌, ◌<◌, ◌≤◌,
 ghost use Rattle.arcs.specs.Family.{Inside};
 ghost use Rattle.arcs.specs.Changes.{Dated, Released, Same};
 ghost use Rattle.arcs.specs.Standing.{Out, Rests};
-ghost use Rattle.queue.specs.Waiting.{Kept};
+ghost use Rattle.engine.specs.Waiting.{Kept};
 ghost use Rattle.domains.specs.Model.{arcs_of, left_of, reason_is, right_of, shown, standing, within};
 ghost use Rattle.domains.specs.Sound.{Rose, Went};
 ghost use Rattle.domains.specs.Stands.{Past, Stands, last_time, with_present};
 ghost use Rattle.engine.specs.Queued.{Queued};
 
 use super::Engine;
+use crate::fifo::Queue;
 use crate::propagate::{enqueue, enqueue_at, propagate};
 use crate::release::release;
 use domains::{Constraints, Domains, Returning};
-use queue::Queue;
 
 // Lets every constraint at a variable whose set has changed wait.
 fn enqueue_changed(

@@ -46,7 +46,7 @@ fn write(c: &mut Constraints, constraint: usize, ends: Ends, rows: &[u64; 64])
     ensures loaded { Loaded c.old c.new constraint ends.left ends.right rows.now }
     ensures shape { Shape c.new }
 {
-    let turned = supports::turned(rows);
+    let turned = catalog::supports::turned(rows);
     c.ends[constraint] = ends;
     c.rows[2 * constraint] = *rows;
     c.rows[2 * constraint + 1] = turned;

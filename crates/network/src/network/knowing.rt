@@ -15,7 +15,7 @@ impl<C: Catalog> Network<C> {
         ensures { (x y : ℕ) → has_bit (slice_index result x) y ≡ (within self.now.state.engine.constraints left x && (within self.now.state.engine.constraints right y && allowed (C.Catalog.meaning self.now.catalog) constraint x y)) }
     {
         let engine = &self.state.engine;
-        supports::rows(
+        catalog::supports::rows(
             &self.catalog,
             constraint,
             engine.size(left),

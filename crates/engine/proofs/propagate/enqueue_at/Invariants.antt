@@ -1,5 +1,5 @@
 use Rattle.std.proofs.Common.{◌≡◌, ℕ, ◌<◌, true, false, Some, get_or}
-use Rattle.queue.specs.Waiting.{Kept}
+use Rattle.engine.specs.Waiting.{Kept}
 use Rattle.domains.specs.Model.{arcs_of}
 use Rattle.engine.specs.Queued.{Queued}
 use Rattle.engine.proofs.propagate.enqueue_at.Given as goal

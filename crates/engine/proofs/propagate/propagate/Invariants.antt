@@ -1,5 +1,5 @@
 use Rattle.std.proofs.Common.{◌+◌, ◌*◌}
-use Rattle.queue.specs.Waiting.{Kept}
+use Rattle.engine.specs.Waiting.{Kept}
 use Rattle.domains.specs.Model.{total}
 use Rattle.domains.specs.Sound.{Settled, Sound, Went}
 use Rattle.engine.specs.Queued.{Queued}

@@ -1,6 +1,6 @@
 use Rattle.std.proofs.Common.{◌+◌, sym, subst₂, arith}
 use Rattle.std.proofs.lemmas.Bool.{both_ways, lt-ltb}
-use Rattle.queue.specs.declared.fifo.Queue.{Queue}
+use Rattle.engine.specs.declared.fifo.Queue.{Queue}
 use Rattle.domains.specs.declared.Domains.{Domains}
 use Rattle.domains.specs.declared.Returning.{Returning}
 use Rattle.engine.proofs.Frees.{Among, among_skip, among_free, names_yes, names_no}

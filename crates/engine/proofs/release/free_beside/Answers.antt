@@ -1,5 +1,5 @@
 use Rattle.std.proofs.Common.{◌+◌, sym, subst₂}
-use Rattle.queue.specs.declared.fifo.Queue.{Queue}
+use Rattle.engine.specs.declared.fifo.Queue.{Queue}
 use Rattle.domains.specs.declared.Domains.{Domains}
 use Rattle.domains.specs.declared.Returning.{Returning}
 use Rattle.engine.proofs.Beside.{Beside, beside_skip, beside_more, beside_all}

@@ -1,5 +1,5 @@
 use Rattle.std.proofs.Common.{ℕ, ◌*◌, ◌≤◌, List, [], length, sym, ◌∙◌, subst, arith}
-use Rattle.queue.specs.Waiting.{waits}
+use Rattle.engine.specs.Waiting.{waits}
 use Rattle.domains.specs.declared.Domains.{Domains}
 use Rattle.domains.specs.declared.Returning.{Returning}
 use Rattle.domains.specs.Model.{total}

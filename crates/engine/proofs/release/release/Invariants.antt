@@ -1,6 +1,6 @@
 use Rattle.std.proofs.Common.{◌≡◌, ℕ, ◌+◌, ◌-◌, ◌*◌, ◌≤◌}
 use Rattle.arcs.specs.Family.{Inside}
-use Rattle.queue.specs.Waiting.{Kept, waits}
+use Rattle.engine.specs.Waiting.{Kept, waits}
 use Rattle.domains.specs.declared.Domains.{Domains}
 use Rattle.domains.specs.Model.{shown, total}
 use Rattle.domains.specs.Releasing.{Releasing}

@@ -1,0 +1,12 @@
+use Rattle.std.proofs.Common.{ap, sym, ◌∙◌, arith, ⊎_elim}
+use Rattle.std.proofs.lemmas.Bool.{cases_lt}
+use Rattle.std.proofs.lemmas.List.{get_or_past}
+use Rattle.bits.specs.Bits.{has_bit}
+use Rattle.bits.proofs.Bitwise.{has_of_zero}
+use Rattle.catalog.proofs.supports.column.Goals as goal
+
+pub returns : goal.returns
+returns c x =
+    ⊎_elim (λ h. c.loop-x.invariant.done x (omega arith))
+    (λ h. c.loop-x.invariant.later x (omega arith) ∙ sym (ap (λ d. has_bit d c.args.y) (get_or_past c.args.rows.now x 0 (omega arith)) ∙ has_of_zero c.args.y))
+    (cases_lt x 64)

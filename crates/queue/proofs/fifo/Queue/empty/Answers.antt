@@ -1,7 +1,0 @@
-use Rattle.std.proofs.Common.{refl}
-use Rattle.queue.specs.Waiting.{waiting}
-use Rattle.queue.proofs.fifo.Queue.empty.Goals as goal
-
-pub returns : goal.returns
-unfolding waiting
-returns g c = record { waiting = refl; len = refl; limit = refl; over = record { same = refl; filled = refl } }
