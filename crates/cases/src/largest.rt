@@ -51,7 +51,7 @@ fn answer<C: Catalog>(
             for domain in domains {
                 print!(rt; " 0x{domain:x}")?;
             }
-            match wiped_out(domains) {
+            match wiped_out(domains, count) {
                 Some(variable) => print!(rt; ", wiped out {variable}")?,
                 None => print!(rt; ", wiped out none")?,
             }

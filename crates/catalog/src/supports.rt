@@ -1,5 +1,5 @@
 // The supports of values: for each value of one end of a constraint, the set of the values of the other end that may stand beside it.
-ghost use Rattle.std.specs.Prelude.{◌≡◌, ℕ, ◌&&◌, nat_lt, slice_index, length};
+ghost use Rattle.std.specs.Prelude.{◌≡◌, ℕ, ◌&&◌, ◌==◌, nat_lt, slice_index};
 ghost use Rattle.bits.specs.Bits.{has_bit, domains_of};
 ghost use Rattle.catalog.specs.Meaning.{allowed};
 ghost use Rattle.arcs.specs.WipedOut.{WipedOut};
@@ -62,10 +62,17 @@ pub fn turned(rows: &[u64; 64]) -> [u64; 64]
     turned
 }
 
-// The lowest variable whose domain is empty, if there is one.
-#[tactic(auto, using(crate::proofs::Emptiness::none_in, crate::proofs::Emptiness::one_in))]
-pub fn wiped_out(domains: &[u64]) -> Option<usize>
-    ensures { WipedOut (domains_of domains.now) (length domains.now) result }
+// Has the variable no value? One that is not in the list has none.
+fn is_empty(domains: &[u64], variable: usize) -> bool
+    ensures { result ≡ (slice_index domains.now variable == 0) }
 {
-    domains.iter().position(|domain| *domain == 0)
+    domains.get(variable).copied().unwrap_or(0) == 0
+}
+
+// The lowest of the first n variables whose domain is empty, if there is one.
+#[tactic(auto, using(crate::proofs::Emptiness::none_in, crate::proofs::Emptiness::one_in))]
+pub fn wiped_out(domains: &[u64], n: usize) -> Option<usize>
+    ensures { WipedOut (domains_of domains.now) n result }
+{
+    (0..n).find(|variable| is_empty(domains, *variable))
 }

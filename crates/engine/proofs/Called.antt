@@ -1,11 +1,9 @@
 -- What the tests before a call give, and what a call leaves.
-use Rattle.std.proofs.Common.{subst, ◌≡◌, ℕ, ◌<◌, ◌≤◌, min, Bool, true, false, cond, not, ◌&&◌, ◌||◌, eqb, ltb, List, length, get_or, Some, None, Option, MatchOption, sym, refl, ap, ◌∙◌, arith}
+use Rattle.std.proofs.Common.{subst, ◌≡◌, ℕ, ◌<◌, ◌≤◌, min, Bool, true, false, cond, not, ◌&&◌, ◌||◌, eqb, ltb, List, length, get_or, Some, None, sym, refl, ap, ◌∙◌}
 use Rattle.std.specs.Option.{is_none}
-use Rattle.std.proofs.lemmas.Bool.{and_parts, eq-eqb, eqb-false, ltb-true, not-true}
+use Rattle.std.proofs.lemmas.Bool.{and_parts, eqb-false, ltb-true, not-true}
 use Rattle.arcs.specs.Family.{Consistent, Inside}
-use Rattle.arcs.specs.WipedOut.{Shown, WipedOut}
-use Rattle.bits.specs.Bits.{bit_at, domains_of, has_bit}
-use Rattle.bits.proofs.Bitwise.{bit_of_zero, some_bit}
+use Rattle.bits.specs.Bits.{domains_of}
 use Rattle.domains.specs.declared.Constraints.{Constraints}
 use Rattle.domains.specs.declared.Domains.{Domains}
 use Rattle.domains.specs.declared.Ends.{Ends}
@@ -89,20 +87,3 @@ loadable c p left right none =
 pub ends_loadable : (c : Constraints) (p left right : ℕ) (ends : Ends) → None ≡ load_fault c p left right → (ends.left ≡ left) × (ends.right ≡ right) → Loadable c p ends.left ends.right
 ends_loadable c p left right ends none same =
     loadable c p ends.left ends.right (none ∙ ap (λ l. load_fault c p l right) (sym same.0) ∙ ap (load_fault c p ends.left) (sym same.1))
-
--- ---- asking
-
-something_shown : (d : Domains) (i : ℕ) → (get_or d.sets i 0 ≡ 0 → ⊥) → Shown (shown d) i
-something_shown d i nz =
-    let s : (x : ℕ) × (x < 64) × (bit_at (get_or d.sets i 0) x ≡ 1) = some_bit 64 (get_or d.sets i 0) (d.wide i) (omega arith) in
-    (s.0, eq-eqb (bit_at (get_or d.sets i 0) s.0) 1 s.2)
-
--- the first variable whose set is 0 is the wiped-out one
-pub wiped_by : (d : Domains) (n : ℕ) (r : Option ℕ) → MatchOption r ((k : ℕ) → 0 ≤ k → k < n → get_or d.sets k 0 ≡ 0 → ⊥) (λ i. (0 ≤ i) × (i < n) × (get_or d.sets i 0 ≡ 0) × ((k : ℕ) → 0 ≤ k → k < i → get_or d.sets k 0 ≡ 0 → ⊥)) → WipedOut (shown d) n r
-wiped_by d n None h = λ j l. something_shown d j (h j (omega arith) l)
-wiped_by d n (Some i) h =
-    record {
-      below = h.1;
-      empty = λ x. ap (λ s. has_bit s x) h.2 ∙ ap (λ b. eqb b 1) (bit_of_zero x);
-      before = λ j l. something_shown d j (h.3 j (omega arith) l);
-    }

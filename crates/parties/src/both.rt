@@ -58,7 +58,7 @@ impl<'a, C: Catalog> Both<'a, C> {
         if let Ok(change) = answer {
             let due = Change {
                 values: differing(&before, &after),
-                wiped: wiped_out(&after[..self.variables.min(32)]),
+                wiped: wiped_out(&after, self.variables),
             };
             check_change(change, due)?;
         } else if before != after {

@@ -67,7 +67,7 @@ impl<'a, C: Catalog> Trial<'a, C> {
         if !parties.reported.has_domains(&parties.domains) {
             return Err(Trouble::Domains);
         }
-        if self.first.wiped_out() != wiped_out(&parties.domains) {
+        if self.first.wiped_out() != wiped_out(&parties.domains, parties.domains.len()) {
             return Err(Trouble::WipedOut);
         }
         let judge = self.judge(&parties.book, &parties.reported);
@@ -157,7 +157,7 @@ impl<'a, C: Catalog> Trial<'a, C> {
         let domains = expected::domains(heap, self.catalog, &parties.book)?;
         let change = Change {
             values: expected::differing(&parties.domains, &domains),
-            wiped: wiped_out(&domains),
+            wiped: wiped_out(&domains, domains.len()),
         };
         check_answer(answer, due.map(|()| change))?;
         parties.domains = domains;

@@ -5,6 +5,7 @@ ghost use Rattle.engine.specs.Calls.{justification_of};
 
 use super::Engine;
 use crate::value::Value;
+use catalog::supports::wiped_out;
 use domains::{Domains, Justification};
 
 // What stands of the value.
@@ -61,18 +62,10 @@ impl Engine {
         Some(read(&self.domains, Value { variable, value }))
     }
 
-    // Has the variable no value left?
-    fn is_empty(&self, variable: usize) -> bool
-        ensures { result ≡ (slice_index self.now.domains.sets variable == 0) }
-    {
-        self.domain(variable) == 0
-    }
-
-    // The lowest of the first n variables that has no value left. Not by the crate `wiped`, whose domains are a list: n may pass the 32 variables here,
-    // and past them no value is left.
+    // The lowest of the first n variables that has no value left; past the 32 variables there is none.
     pub fn wiped_out(&self, n: usize) -> Option<usize>
         ensures { WipedOut (shown self.now.domains) n result }
     {
-        (0..n).find(|i| self.is_empty(*i))
+        wiped_out(&self.domains.sets, n)
     }
 }
