@@ -1,8 +1,8 @@
 // Numbers, catalogs and numberings that look like chance, the same for the same seed. They serve trials and cases alone.
 #![tactic(auto)]
 
-ghost use Rattle.std.specs.Prelude.{◌*◌, ◌<◌, ◌≤◌, ◌%◌, ◌^◌, ◌≡◌, max};
-ghost use Rattle.random.specs.Xorshift.{FACTOR, shifted};
+ghost use Rattle.std.specs.Prelude.{◌+◌, ◌-◌, ◌<◌, ◌≤◌, ◌^◌, ◌≡◌, max, min};
+ghost use Rattle.random.specs.Xorshift.{below_at, number_at, shifted};
 
 pub mod density;
 pub mod drawn;
@@ -29,7 +29,7 @@ impl Random {
     // The next number.
     pub fn draw(&mut self) -> u64
         ensures state { self.new.state ≡ shifted self.old.state }
-        ensures value { result ≡ shifted self.old.state * FACTOR % 2 ^ 64 }
+        ensures value { result ≡ number_at self.old.state }
     {
         let mut x = self.state;
         x ^= x >> 12;
@@ -41,6 +41,8 @@ impl Random {
 
     // A number below `n`, or 0 where there is none. Not an `Option`: it is promised to give a number for any `n`, as `between` is.
     pub fn below(&mut self, n: usize) -> usize
+        ensures state { self.new.state ≡ shifted self.old.state }
+        ensures value { result ≡ below_at self.old.state n }
         ensures below { 0 < n → result < n }
         ensures least { result ≤ n }
     {
@@ -50,6 +52,7 @@ impl Random {
 
     // A number from `low` to `high`, or `low` where there is none.
     pub fn between(&mut self, low: usize, high: usize) -> usize
+        ensures value { low < high → result ≡ low + below_at self.old.state (min (high - low + 1) (2 ^ 64 - 1)) }
         ensures low { low ≤ result }
         ensures high { low ≤ high → result ≤ high }
     {
