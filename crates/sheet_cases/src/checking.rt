@@ -36,7 +36,7 @@ fn add_word(heap: Global, sheet: &mut Vec<u8>, word: &str) -> anyhow::Result<()>
     Ok(())
 }
 
-fn sheet_of(heap: Global, text: &str) -> anyhow::Result<Vec<u8>> {
+pub fn sheet_of(heap: Global, text: &str) -> anyhow::Result<Vec<u8>> {
     let mut sheet = Vec::new(heap);
     for word in text.split(' ') {
         add_word(heap, &mut sheet, word)?;

@@ -10,7 +10,7 @@ use Rattle.sheet_format.specs.Kinds.{kind_number}
 use Rattle.sheet_format.specs.Faults.{cause_number}
 use Rattle.sheet_format.specs.Value.{size_at, ValidEnds}
 use Rattle.sheet_format.specs.Beginnings.{Begun, Keeps, begun_tally}
-use Rattle.sheet_format.specs.Rules.{Rule, rule, HeadingSays, SizeGiven, HouseFree, FormulaFits, constraint_rules, rules, FirstBroken}
+use Rattle.sheet_format.specs.Rules.{Rule, rule, HeadingSays, SizeGiven, HouseFree, FormulaFits, constraint_rules, rules, FirstBroken, AllKept}
 use Rattle.sheet_format.specs.Reading.{Shown, shows_heading, shows_variable, shows_sum, shows_table, shows_short_table, shows_add, shows_retract, shows_end, shown}
 use Rattle.sheet_format.specs.Verdict.{Tally, Step, goes, ends, stops, unless, between, between_z, used, house_good, ends_good, sum_good, step, heading_step, variable_step, constraint_step, sum_step, table_step, move_step, end_step}
 use Rattle.sheet_format.proofs.Shows.{two_first, KindIs, kind_is}
@@ -78,16 +78,17 @@ formula_tested m k lo hi =
 stops_same : (c d : Cause) → stops c ≡ stops d → d ≡ c
 stops_same c d e = cc
 
-goes_on : (h : Tally) (cause : Cause) → goes h ≡ stops cause → ⊥
+pub goes_on : (h : Tally) (cause : Cause) → goes h ≡ stops cause → ⊥
 goes_on h cause e = let z : ◌≡◌ {A = ℕ} 0 1 = cc in omega arith
 
-ends_here : (cause : Cause) → ends ≡ stops cause → ⊥
-ends_here cause e = let z : ◌≡◌ {A = ℕ} 0 1 = cc in omega arith
+pub ends_on : (cause : Cause) → ends ≡ stops cause → ⊥
+ends_on cause e = let z : ◌≡◌ {A = ℕ} 0 1 = cc in omega arith
 
--- a step stops for a cause just where that is the cause of the first broken rule
+-- A step stops for a cause just where that is the cause of the first broken rule. Where it does not stop, no rule is broken.
 pub record Breaks (next : Step) (rs : List Rule) : Type 0 where
   pub first : (cause : Cause) → next ≡ stops cause → FirstBroken (cause_number cause) rs
   pub there : (number : ℕ) → FirstBroken number rs → (cause : Cause) × (next ≡ stops cause) × (number ≡ cause_number cause)
+  pub all : ((cause : Cause) → next ≡ stops cause → ⊥) → AllKept rs
 
 -- a rule that is kept
 kept : (c : Cause) (next : Step) (rs : List Rule) {P : Type 0} → P → Breaks next rs → Breaks next (rule c P ∷ rs)
@@ -95,6 +96,7 @@ kept c next rs p more =
     record {
       first = λ cause e. inr (p, more.first cause e);
       there = λ number f. ⊎_elim (λ x. absurd (x.1 p)) (λ y. more.there number y.1) f;
+      all = λ on. (p, more.all on);
     }
 
 tested : (test : Bool) (c : Cause) (next : Step) (P : Type 0) (rs : List Rule) → Tests test P → Breaks next rs → Breaks (unless test c next) (rule c P ∷ rs)
@@ -103,13 +105,14 @@ tested false c next P rs t more =
     record {
       first = λ cause e. inl (ap cause_number (stops_same c cause e), λ p. not_so (t.holds p));
       there = λ number f. ⊎_elim (λ x. (c, refl, x.0)) (λ y. absurd (not_so (t.holds y.0))) f;
+      all = λ on. absurd (on c refl);
     }
   where
     not_so : false ≡ true → ⊥
     not_so e = let z : ◌≡◌ {A = ℕ} 0 1 = cc in omega arith
 
 no_more : (h : Tally) → Breaks (goes h) []
-no_more h = record { first = λ cause e. goes_on h cause e; there = λ number f. absurd f }
+no_more h = record { first = λ cause e. goes_on h cause e; there = λ number f. absurd f; all = λ on. tt }
 
 module _ (b : Begun) (k : Keeps b) where
   constraint_breaks : (next : Step) (rs : List Rule) → Breaks next rs → Breaks (constraint_step (begun_tally b) next) (constraint_rules b rs)
@@ -154,6 +157,7 @@ module _ (b : Begun) (k : Keeps b) where
       (record {
         first = λ cause e. inl (ap cause_number (stops_same WrongLength cause e), λ m. omega arith);
         there = λ number f. ⊎_elim (λ x. (WrongLength, refl, x.0)) (λ y. absurd (let m = y.0 in omega arith)) f;
+        all = λ on. absurd (on WrongLength refl);
       })
 
   move_breaks : (body : List ℕ) → Breaks (move_step (begun_tally b) body) (rules b Add body)
@@ -164,7 +168,7 @@ module _ (b : Begun) (k : Keeps b) where
   end_breaks : (body : List ℕ) → Breaks (end_step (begun_tally b) body) (rules b End body)
   end_breaks body =
       tested _ OutOfTurn _ _ _ (record { says = complete_is b k; holds = is_complete b }) (
-      tested _ WrongLength _ _ _ (equals (length body) 0) (record { first = λ cause e. absurd (ends_here cause e); there = λ number f. absurd f }))
+      tested _ WrongLength _ _ _ (equals (length body) 0) (record { first = λ cause e. absurd (ends_on cause e); there = λ number f. absurd f; all = λ on. tt }))
 
   -- what a record of a kind shows, and the step of that
   pub record OfKind (kind : Kind) (body : List ℕ) (place after : ℕ) : Type 0 where
@@ -203,7 +207,7 @@ kind_shown number body (shows_add xs) q = (Add, sym q.0)
 kind_shown number body (shows_retract xs) q = (Retract, sym q.0)
 kind_shown number body (shows_end xs) q = (End, sym q.0)
 
-same_shown : (s t : Shown) → ◌≡◌ {A = Option Shown} (Some s) (Some t) → t ≡ s
+pub same_shown : (s t : Shown) → ◌≡◌ {A = Option Shown} (Some s) (Some t) → t ≡ s
 same_shown s t e = cc
 
 -- the kind of a record that stops the walk, and its first broken rule

@@ -1,6 +1,6 @@
 -- What the call of a writer makes of the beginning of a sheet that it has written.
 use Rattle.std.specs.Prelude.{FitsSigned}
-use Rattle.std.proofs.Common.{◌≡◌, ℕ, ◌+◌, ◌*◌, ◌/◌, ◌%◌, ◌^◌, ◌<◌, ◌≤◌, Bool, true, false, cond, List, [], ◌∷◌, ◌++◌, length, take, drop, Some, Ok, Err, Result, sym, refl, ap, ◌∙◌, subst, arith, of_z, w16, w32}
+use Rattle.std.proofs.Common.{◌≡◌, ℕ, ◌+◌, ◌*◌, ◌/◌, ◌%◌, ◌^◌, ◌<◌, ◌≤◌, Bool, true, false, cond, List, [], ◌∷◌, ◌++◌, length, take, drop, Ok, Err, Result, sym, refl, ap, ◌∙◌, subst, arith, of_z, w16, w32}
 use Rattle.std.specs.List.{flat_map, AllByRecursion}
 use Rattle.std.proofs.lemmas.List.{append_assoc, append-nil, length-append, length-take-le, take_at}
 use Rattle.std.proofs.lemmas.Bool.{ltb-false, and_parts, not-true}
@@ -12,16 +12,16 @@ use Rattle.sheet_format.specs.Value.{sum, table, add, retract}
 use Rattle.sheet_format.specs.Encoding.{Raw, framed, variable_record, end_record, encode, Valid}
 use Rattle.sheet_format.specs.Decoding.{rows_in, decode}
 use Rattle.sheet_format.specs.Beginnings.{Begun, records_begun, bytes_begun, AllThere, nothing_begun, begun_tally, begun_sheet}
-use Rattle.sheet_format.specs.Reading.{Shown, shows_end, shown}
+use Rattle.sheet_format.specs.Reading.{Shown, shows_end}
 use Rattle.sheet_format.specs.Verdict.{Tally, Step, goes, ends, stops, step, variable_of, verdict}
 use Rattle.sheet_format.specs.Writing.{Entry, heads, has_variable, has_constraint, has_move, ends_here, entry_record, Pen, new_pen, lies_in, put_step, put, laid, PutsEntry}
-use Rattle.sheet_format.specs.Written.{begun_with, Written, Whole, Grown, Grows}
+use Rattle.sheet_format.specs.Written.{begun_with, Written, Whole, Grown, WhyRefused, Grows}
 use Rattle.sheet_format.proofs.NumberLaws.{two_back, Bytes}
 use Rattle.sheet_format.proofs.Held.{GoesHeld, goes_held, end_held}
 use Rattle.sheet_format.proofs.Shows.{KindIs, kind_is}
-use Rattle.sheet_format.proofs.Telling.{the_end}
 use Rattle.sheet_format.proofs.Tallies.{past, same_begun, bytes_more, place_more, complete_is}
 use Rattle.sheet_format.proofs.Rows.{rows_there}
+use Rattle.sheet_format.proofs.Refusing.{end_shows, end_stays, last_kind, why_refused}
 use Rattle.sheet_format.proofs.Items.{sum_back}
 use Rattle.sheet_format.proofs.Extending.{begun_with_raw, Extends, extends}
 use Rattle.sheet_format.proofs.Sheets.{ended_bytes, begun_valid}
@@ -153,15 +153,7 @@ whole b p xs w ys same place at s l short =
     let there : take place ys ≡ encode (begun_sheet b) = ap (λ n. take n ys) at ∙ bytes_there b p xs w end_record ys same l ∙ ended_bytes b all in
     let long = sym (ap length (ended_bytes b all)) ∙ length-append (bytes_begun b) (framed end_record) in
     let v : Valid (begun_sheet b) = begun_valid b w.keeps all (omega arith) in
-    record { valid = v; bytes = there; accepted = ap verdict there ∙ encoded_accepted (begun_sheet b) v; back = ap decode there ∙ decode-encode (begun_sheet b) v }
-
--- what the end shows
-end_shows : (place : ℕ) (s : Shown) → shown end_record.kind end_record.body place ≡ Some s → s ≡ shows_end []
-end_shows place s e = cc
-
--- only the end ends
-last_kind : (e : Entry) (g : Tally) (place after : ℕ) (s : Shown) → shown (entry_record e).kind (entry_record e).body place ≡ Some s → step g s after ≡ ends → (entry_record e).kind ≡ 7
-last_kind e g place after s shows st = ap (λ r. r.kind) (the_end g (entry_record e) s (kind_is _ _ place s shows) (end_held g s after st)).1
+    record { valid = v; reached = omega arith; bytes = there; accepted = ap verdict there ∙ encoded_accepted (begun_sheet b) v; back = ap decode there ∙ decode-encode (begun_sheet b) v }
 
 module _ (b : Begun) (p : Pen) (xs : List ℕ) (w : Written b p xs) (q : Pen) (ys : List ℕ) (place : ℕ) where
   -- an entry that is not the end
@@ -181,7 +173,7 @@ module _ (b : Begun) (p : Pen) (xs : List ℕ) (w : Written b p xs) (q : Pen) (y
       same = end_shows p.place s shows
 
       by : Put p (length xs) (p.place + 4) (step p.tally s (p.place + 4)) q → Whole b place ys
-      by (put_on h st made fits) = absurd (goes_held p.tally (shows_end []) (p.place + 4) h (subst (λ t. step p.tally t (p.place + 4) ≡ goes h) same st))
+      by (put_on h st made fits) = absurd (end_stays p.tally p.place (p.place + 4) s h shows st)
       by (put_end st made fits) =
           let l = lies_is (length xs) (p.place + 4) fits in
           whole b p xs w ys puts.2 place (puts.1 ∙ ap (λ z. z.place) made) (subst (λ t. step p.tally t (p.place + 4) ≡ ends) same st) (omega (arith, l.0)) (omega (arith, l.1))
@@ -195,10 +187,12 @@ module _ (b : Begun) (p : Pen) (xs : List ℕ) (w : Written b p xs) (q : Pen) (y
   grown (has_move (retract i)) f puts = one_more (has_move (retract i)) f (λ k. omega arith) puts
   grown ends_here f puts = the_last puts
 
--- after any call that puts an entry, one entry more is written, or the sheet is whole, or what was written is as it was
+-- after any call that puts an entry, one entry more is written, or the sheet is whole, or what was written is as it was, and it is said why
 pub grows : (b : Begun) (p : Pen) (xs : List ℕ) (q : Pen) (ys : List ℕ) (e : Entry) (r : Result ℕ WriteFault) → Fields e → Written b p xs → PutsEntry p xs e q ys r → Grows b e q ys r
 grows b p xs q ys e (Ok place) f w puts = grown b p xs w q ys place e f puts
-grows b p xs q ys e (Err fault) f w puts = subst (λ z. Written b z ys) (sym puts.2.1) (subst (λ zs. Written b p zs) (sym puts.2.2) w)
+grows b p xs q ys e (Err fault) f w (s, shows, puts) =
+    subst (λ z. Written b z ys × WhyRefused b e z (length ys) fault) (sym puts.1)
+    (subst (λ zs. Written b p zs × WhyRefused b e p (length zs) fault) (sym puts.2) (w, why_refused b p xs w (length xs) e s shows fault puts.0))
 
 -- a writer that has written nothing
 pub nothing_written : (xs : List ℕ) → Written nothing_begun new_pen xs
@@ -209,5 +203,5 @@ pub end_closes : (p : Pen) (xs : List ℕ) (q : Pen) (ys : List ℕ) (place : �
 end_closes p xs q ys place (s, shows, puts) = by (put_is p (length xs) s 4 q puts.0)
   where
     by : Put p (length xs) (p.place + 4) (step p.tally s (p.place + 4)) q → q.is_open ≡ false
-    by (put_on h st made fits) = absurd (goes_held p.tally (shows_end []) (p.place + 4) h (subst (λ t. step p.tally t (p.place + 4) ≡ goes h) (end_shows p.place s shows) st))
+    by (put_on h st made fits) = absurd (end_stays p.tally p.place (p.place + 4) s h shows st)
     by (put_end st made fits) = ap (λ z. z.is_open) made

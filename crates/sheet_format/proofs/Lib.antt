@@ -15,6 +15,7 @@ pub mod Sheets
 pub mod Telling
 pub mod Alone
 pub mod Laws
+pub mod Refusing
 pub mod Growing
 pub mod Lawfulness
 pub mod Read

@@ -101,6 +101,11 @@ abbrev pub FirstBroken : ℕ → List Rule → Type 0
 FirstBroken number [] = ⊥
 FirstBroken number (r ∷ rs) = ((number ≡ cause_number r.cause) × (r.holds → ⊥)) ⊎ (r.holds × FirstBroken number rs)
 
+-- no rule is broken
+abbrev pub AllKept : List Rule → Type 0
+AllKept [] = Unit {0}
+AllKept (r ∷ rs) = r.holds × AllKept rs
+
 -- bytes begin with this record, which is whole
 pub record Stands (r : Raw) (xs : List ℕ) : Type 0 where
   pub after : List ℕ
