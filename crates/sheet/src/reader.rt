@@ -4,7 +4,7 @@ ghost use Rattle.sheet_format.specs.Kinds.{kind_number};
 ghost use Rattle.sheet_format.specs.Reading.{shown, shown_table};
 ghost use Rattle.sheet.specs.Outcome.{Answers, Taken, shown_by};
 
-use sheet_format::{Kind, RecordCause, RecordFault};
+use sheet_format::{Kind, RecordCause, RecordFault, word};
 
 // Some bytes of a sheet, and the byte of the sheet at which they begin.
 #[derive(Clone, Copy)]
@@ -76,18 +76,14 @@ fn rest_after(input: &[u8], place: u32, many: usize) -> Part<'_>
 fn take_record(input: &[u8], place: u32) -> Result<(Record<'_>, Part<'_>), RecordCause>
     ensures { Taken input.now place result }
 {
-    let [low, high, kind_low, kind_high, ..] = input else {
-        return Err(if input.is_empty() {
-            RecordCause::Missing
-        } else {
-            RecordCause::BadLength
-        });
-    };
-    let length = u16::from_le_bytes([*low, *high]) as usize;
-    if length < 4 || length > input.len() {
+    if input.is_empty() {
+        return Err(RecordCause::Missing);
+    }
+    let length = word(input, 0) as usize;
+    if input.len() < 4 || length < 4 || length > input.len() {
         return Err(RecordCause::BadLength);
     }
-    let kind = Kind::try_from(u16::from_le_bytes([*kind_low, *kind_high]))?;
+    let kind = Kind::try_from(word(input, 2))?;
     let record = record_of(kind, &input[4..length], place);
     Ok((record, rest_after(input, place, length)))
 }
