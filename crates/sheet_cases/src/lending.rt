@@ -59,10 +59,13 @@ fn call_lent<'a>(writer: &mut Writer, hand: &mut Hand<'a>, call: Call<'a>) -> an
 
 // another array in the place of the one that was lent
 fn move_to(heap: Global, hand: &mut Hand<'_>, size: usize, byte: u8) -> anyhow::Result<()> {
-    let mut array = Vec::from_elem(heap, byte, size)?;
-    for (to, from) in array.iter_mut().zip(hand.array.iter().take(hand.place)) {
-        *to = *from;
-    }
+    let mut array = Vec::new(heap);
+    array.extend_from_slice(
+        hand.array
+            .get(..hand.place)
+            .context("more is written than there is")?,
+    )?;
+    array.resize(size, byte)?;
     hand.array = array;
     hand.lent = size;
     Ok(())
