@@ -102,11 +102,11 @@ impl Book {
     }
 
     // Do buffers of so many entries and the clock allow a call that the rest allows, or why not? Where the book does not know whether the clock is spent, it
-    // is as is `said`.
-    pub fn may_now(&self, waiting: usize, returning: usize, said: bool) -> Result<(), Refusal> {
+    // is as `is_spent` says.
+    pub fn may_now(&self, waiting: usize, returning: usize, is_spent: bool) -> Result<(), Refusal> {
         if waiting < 128 || returning < 2048 {
             Err(Refusal::ShortBuffer)
-        } else if self.clock.spent().unwrap_or(said) {
+        } else if self.clock.spent().unwrap_or(is_spent) {
             Err(Refusal::ClockSpent)
         } else {
             Ok(())
