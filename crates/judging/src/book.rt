@@ -1,5 +1,5 @@
-// Which variables and constraints a list of calls has brought about, kept by the trials themselves, which share with the solvers that they judge only
-// the catalogs, the sets of bits and the names of the causes of refusal.
+// Which variables and constraints a list of calls has brought about, kept by the trials themselves. The book shares with the solvers that it is held
+// against only the catalogs and the names of the causes of refusal; what else the trials share with them is said at the top of this crate.
 use crate::clock::Clock;
 use catalog::Catalog;
 use catalog::refusal::Refusal;
