@@ -1,5 +1,6 @@
 // Reads cases from standard input and prints what comes of each: calls on a network, and the largest domains worked out from scratch. Each line is printed again
 // with a colon and its answer, `unreadable` where it cannot be read; one whose first word is `#` is a title, and is printed as it is.
+// A title cannot be the first line of a block: it would be taken for the line that names the catalog, and the others would be unreadable.
 //
 // Cases stand in blocks, parted by an empty line. The first line of a block names what is done and on which catalog, and is answered by the count of its
 // constraints. Of a `network` the calls of a block are one list, performed in one go, each lent its own part of the buffers; in `scratch` each line is worked out
@@ -22,7 +23,8 @@
 //     domain VARIABLE, shown VARIABLE VALUE, why VARIABLE VALUE, wiped
 //     lengths WAITING RETURNING ANSWERS how many entries the two buffers and the list of answers have: 128, 2048 and enough where no line says it. It tells whether
 //                                       all entries of the buffers were in the end as they were lent, and whether those past 128 and 2048 were
-//     after VARIABLE                    a domain, asked of the network that comes back
+//                                       too. These lengths are those of the whole block: a second such line is answered as well, but the first one counts
+//     after VARIABLE                    a domain, asked of the network that comes back: of a variable below 32, else it is unreadable
 #![tactic(auto)]
 
 mod call;

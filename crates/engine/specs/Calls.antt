@@ -13,11 +13,11 @@ use Rattle.domains.specs.Model.{within, is_present, left_of, right_of, arcs_of, 
 use Rattle.domains.specs.Sound.{Rose, Went}
 use Rattle.domains.specs.Stands.{spent, with_present}
 
--- can p go in: it is not in, has two different ends, and there is room and time
+-- can p go in: it is not in, has two different ends, the buffer is long enough, and there is time
 abbrev pub can_add : Constraints → Domains → ℕ → ℕ → Bool
 can_add c d p waiting = nat_lt p 128 && (not (is_present c p) && (not (left_of c p == right_of c p) && (not (nat_lt waiting 128) && not (spent d.clock))))
 
--- can p go out: it is in, and there is room and time
+-- can p go out: it is in, the buffers are long enough, and there is time
 abbrev pub can_retract : Constraints → Domains → ℕ → ℕ → ℕ → Bool
 can_retract c d p waiting returning = nat_lt p 128 && (is_present c p && (not (nat_lt waiting 128) && (not (nat_lt returning 2048) && not (spent d.clock))))
 

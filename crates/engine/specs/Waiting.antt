@@ -15,7 +15,7 @@ waiting buffer limit head len = take len (turned (take limit buffer) head)
 abbrev pub waits : {T : Type 0} → Queue T → List T
 waits q = waiting q.buffer.now q.limit q.head q.len
 
--- the same room, as long as it was, with the same limit, and past the limit as it was
+-- the same buffer, as long as it was, with the same limit, and past the limit as it was
 pub record Kept {T : Type 0} (q q' : Queue T) : Type 0 where
   pub same : q'.buffer.ghost_name ≡ q.buffer.ghost_name
   pub limit : q'.limit ≡ q.limit

@@ -1,5 +1,5 @@
-// Which variables and constraints a list of calls has brought about, kept by the trials themselves, which share with the solvers that they judge only
-// the catalogs, the sets of bits and the names of the causes of refusal.
+// Which variables and constraints a list of calls has brought about, kept by the trials themselves. The book shares with the solvers that it is held
+// against only the catalogs and the names of the causes of refusal; what else the trials share with them is said at the top of this crate.
 use crate::clock::Clock;
 use catalog::Catalog;
 use catalog::refusal::Refusal;
@@ -102,11 +102,11 @@ impl Book {
     }
 
     // Do buffers of so many entries and the clock allow a call that the rest allows, or why not? Where the book does not know whether the clock is spent, it
-    // is as is `said`.
-    pub fn may_now(&self, waiting: usize, returning: usize, said: bool) -> Result<(), Refusal> {
+    // is as `is_spent` says.
+    pub fn may_now(&self, waiting: usize, returning: usize, is_spent: bool) -> Result<(), Refusal> {
         if waiting < 128 || returning < 2048 {
             Err(Refusal::ShortBuffer)
-        } else if self.clock.spent().unwrap_or(said) {
+        } else if self.clock.spent().unwrap_or(is_spent) {
             Err(Refusal::ClockSpent)
         } else {
             Ok(())

@@ -1,6 +1,7 @@
 // What is known of a network's clock.
 
-// The last time at which the clock lets a change begin.
+// The last time at which the clock lets a change begin. The judge has its own on purpose, and does not take that of the network which it judges: a wrong one
+// there is to be found.
 pub const LAST_TIME: u32 = 4_294_965_247;
 
 // The least and the most that the clock can be. An add raises it by the values that go out, and a retract by at most 2,048: no more is promised of that.

@@ -12,7 +12,7 @@ use Rattle.network.specs.Calls.{Lengths, Call, opens, adds, retracts, asks_domai
 abbrev pub when : Bool → Refusal → Option Refusal
 when b e = cond b (Some e) None
 
--- there is room for fewer than 128 constraints or fewer than 2,048 values
+-- a buffer is too short: fewer than 128 entries for constraints, or fewer than 2,048 for values
 abbrev pub short : Lengths → Bool
 short r = nat_lt r.waiting 128 || nat_lt r.returning 2048
 

@@ -12,7 +12,7 @@ abbrev pub indices_refusal : Meaning → ℕ → List ℕ → Option Refusal
 indices_refusal m n [] = None
 indices_refusal m n (p ∷ ps) = first (constraint_refusal m n p) (indices_refusal m n ps)
 
--- the sizes first, then the indices, then the room for the result
+-- the sizes first, then the indices, then the length of the result list
 abbrev pub refusal : Meaning → List ℕ → List ℕ → ℕ → Option Refusal
 refusal m sizes indices entries =
     first (sizes_refusal sizes)

@@ -20,7 +20,7 @@ fn check_indices<C: Catalog>(catalog: &C, n: usize, indices: &[usize]) -> Result
 }
 
 impl<C: Catalog> Request<'_, C> {
-    // The first cause that refuses the request, where `room` is the length of the result list.
+    // The first cause that refuses the request, where `entries` is the length of the result list.
     pub(crate) fn check(&self, entries: usize) -> Result<(), Refusal>
         ensures { result_err result ≡ refusal (C.Catalog.meaning self.now.catalog.now) self.now.sizes.now self.now.indices.now entries }
     {

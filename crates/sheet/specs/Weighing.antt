@@ -8,10 +8,10 @@ use Rattle.sheet.specs.declared.progress.Next.{Next}
 use Rattle.sheet.specs.Steps.{kept, next_step, Fits}
 
 -- the writer is open, and there is room for the record, what it adds and what is kept after it
-abbrev pub Room : Pen → ℕ → ℕ → Result (Next × ℕ) WriteFault → Type 0
-Room p size long (Ok found) =
+abbrev pub RecordFits : Pen → ℕ → ℕ → Result (Next × ℕ) WriteFault → Type 0
+RecordFits p size long (Ok found) =
     (p.is_open ≡ true) × (found.1 ≡ p.place + long) × (lies_in size (found.1 + kept found.0) ≡ true) × Fits p.tally found.0
-Room p size long (Err fault) = Unit {0}
+RecordFits p size long (Err fault) = Unit {0}
 
 -- what it adds is the check's step; or the refusal is that of the definition
 abbrev pub Weighed : Pen → ℕ → Shown → ℕ → Result (Next × ℕ) WriteFault → Type 0

@@ -11,7 +11,7 @@ ghost use Rattle.std.specs.Int.{w16, w32};
 ghost use Rattle.sheet_format.specs.Beginnings.{Begun, nothing_begun};
 ghost use Rattle.sheet_format.specs.Written.{Written, Grows};
 ghost use Rattle.sheet.specs.Sizes.{SizesLow};
-ghost use Rattle.sheet.specs.Weighing.{Room, Weighed};
+ghost use Rattle.sheet.specs.Weighing.{RecordFits, Weighed};
 ghost use Rattle.sheet_format.specs.Reading.{Shown, shown};
 ghost use Rattle.sheet_format.specs.Writing.{Pen, new_pen, heads, has_variable, has_constraint, has_move, ends_here, lies_in, laid, PutsRecord, PutsEntry, Abandons};
 
@@ -178,7 +178,7 @@ impl Writer {
     // what a record of a kind would add to a sheet in so many bytes, judged as the check judges what the reader takes off, and the place after it
     #[tactic(auto, using(crate::proofs::Putting::put_short))]
     fn judge(&self, size: usize, kind: Kind, body: &[u8]) -> Result<(Next, usize), WriteFault>
-        ensures long { Room self.now size (4 + length body.now) result }
+        ensures long { RecordFits self.now size (4 + length body.now) result }
         ensures judged { (s : Shown) → shown (kind_number kind) body.now self.now.place ≡ Some s → Weighed self.now size s (4 + length body.now) result }
     {
         if !self.is_open {

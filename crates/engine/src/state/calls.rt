@@ -18,7 +18,7 @@ fn count(d: &Domains) -> u32
 }
 
 impl Engine {
-    // May the constraint go in, with so much room?
+    // May the constraint go in, with a buffer of so many entries?
     fn can_add(&self, constraint: usize, waiting: usize) -> bool
         ensures { result ≡ can_add self.now.constraints self.now.domains constraint waiting }
     {

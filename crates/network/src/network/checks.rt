@@ -18,7 +18,7 @@ pub(super) struct Lengths {
     pub returning: usize,
 }
 
-// Is there room and time for a change?
+// Are the buffers long enough for a change, and is there time?
 fn check_lent(lengths: Lengths, clock: u32) -> Result<(), Refusal>
     ensures { result_err result ≡ lent_refusal (record { waiting = lengths.waiting; returning = lengths.returning }) (spent clock) }
 {
