@@ -9,7 +9,7 @@ use Rattle.network.specs.declared.calls.Lent.{Lent}
 abbrev pub cut : Lengths → Lent → Lengths
 cut lengths lent = record { waiting = min lent.waiting lengths.waiting; returning = min lent.returning lengths.returning }
 
--- one call, where the buffers are as long as `buffers` says
+-- one call, where the buffers have these lengths
 abbrev pub call_of : Lengths → Call → Asked
 call_of lengths (Open sizes time) = opens sizes.now time
 call_of lengths (Add p lent) = adds p (cut lengths lent)

@@ -110,7 +110,7 @@ fn copy(writer: &mut Writer, sheet: &[u8], buffer: &mut [u8]) -> Result<usize, W
 }
 
 // Puts every record of a sheet that the check accepts into a buffer, through a writer, and answers how many bytes there are: they are the sheet's. A
-// buffer that is too short holds the first records of the sheet.
+// buffer that is too short then holds as many of the sheet's first records as leave four bytes for the end, and is else as it was.
 pub fn rewrite(sheet: &[u8], buffer: &mut [u8]) -> Result<usize, RewriteFault>
     ensures { Rewrites sheet.now buffer.old buffer.new result }
 {

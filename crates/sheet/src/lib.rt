@@ -1,4 +1,4 @@
-// Reading a sheet: one record at a time, and the check of the whole.
+// Sheets: reading one record, the check of the whole, the moves of a checked sheet, and writing one.
 #![tactic(auto)]
 
 mod accepted;

@@ -26,7 +26,7 @@ pub fn combined_of<'a>(sheet: &Accepted<'a>) -> Joined<Renumbered<SheetCatalog<'
     Joined { first, second }
 }
 
-// The same of any bytes. Those that the check refuses have no constraints and no house numbers, as no bytes at all.
+// The same of any bytes. Bytes that the check refuses give no constraint of a sheet and leave each variable its number, as an empty sheet would.
 #[tactic(auto, using(crate::proofs::Known::refused_combined))]
 pub fn combined(bytes: &[u8]) -> Joined<Renumbered<SheetCatalog<'_>>, HouseCatalog>
     ensures { joined (renumbered result.first.numbering.to (meaning_of (sheet_in result.first.catalog.bytes.now))) house ≡ combined_of bytes.now }

@@ -1,4 +1,4 @@
-// The sheet format: its faults, the kinds of records, the numbers in its bytes, and what the check of a sheet finds.
+// The sheet format: its faults, those of writing, the kinds of records, the numbers in its bytes, and what the check of a sheet finds.
 #![tactic(auto)]
 
 mod faults;
