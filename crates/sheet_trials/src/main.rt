@@ -41,7 +41,7 @@ fn perform(rt: &HostRuntime, case: Case<'_>, sheet: &Accepted<'_>) -> io::Result
     let moves = moves_of(rt.alloc(), sheet)?;
     println!(rt; "{name}, its own constraints")?;
     make_moves(rt, &SheetCatalog::of(sheet), sizes, &moves)?;
-    println!(rt; "{name}, the combined")?;
+    println!(rt; "{name}, the pile")?;
     make_moves(rt, &combined_of(sheet), Sizes::of(sheet).as_slice(), &moves)
 }
 
