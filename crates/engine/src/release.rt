@@ -76,6 +76,7 @@ pub(crate) fn free_among(
 }
 
 // The values of the arc's far variable that may stand beside the value of its near one.
+#[inline(always)]
 fn beside(c: &Constraints, arc: Arc, value: u8) -> u64
     requires rows { arc.rows < 256 }
     requires value { value < 64 }

@@ -38,6 +38,7 @@ pub(crate) fn arc_at(c: &Constraints, variable: usize, constraint: usize) -> Opt
 }
 
 // Is the value shown, with none of the supports in its row?
+#[inline(always)]
 fn is_bare(d: &Domains, at: Value, row: u64, supports: u64) -> bool
     ensures { result ≡ (shown d.now at.variable at.value && bit_and supports row == 0) }
 {

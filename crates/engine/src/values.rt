@@ -7,6 +7,7 @@ use crate::value::Value;
 use domains::{Domains, Justification};
 
 // The justification of a value that goes out by the constraint.
+#[inline(always)]
 fn reason(d: &Domains, constraint: usize) -> Justification
     ensures { result ≡ record { constraint = constraint; time = d.now.clock } }
 {
