@@ -9,8 +9,8 @@ use Rattle.network.specs.Moment.{Moment}
 use Rattle.catalog.specs.Causes.{sizes_refusal}
 use Rattle.sheet_format.specs.Decoding.{decode}
 use Rattle.sheet_format.specs.Verdict.{Verdict, verdict}
-use Rattle.sheet_format.specs.Meant.{sheet_in}
-use Rattle.sheet_format.specs.Placed.{SizesOf}
+use Rattle.sheet_catalog.specs.Meant.{sheet_in}
+use Rattle.sheet_catalog.specs.Placed.{SizesOf}
 use Rattle.sheet.specs.Moves.{move_of}
 use Rattle.sheet.specs.declared.sheet_move.Move.{Move}
 use Rattle.sheet_catalog.specs.Combined.{combined_of}

@@ -8,8 +8,8 @@ use Rattle.house.specs.Table.{all_below}
 use Rattle.sheet_format.specs.Value.{Sheet, sum, add, retract, size_at, house_at}
 use Rattle.sheet_format.specs.Decoding.{decode, split}
 use Rattle.sheet_format.specs.Verdict.{verdict, walked}
-use Rattle.sheet_format.specs.Meant.{meaning_of, empty_sheet, sheet_in}
-use Rattle.sheet_format.specs.Placed.{numbers_of, size_of_house, SizesOf}
+use Rattle.sheet_catalog.specs.Meant.{meaning_of, empty_sheet, sheet_in}
+use Rattle.sheet_catalog.specs.Placed.{numbers_of, size_of_house, SizesOf}
 use Rattle.samples.specs.Chain.{chain_bytes, chain}
 use Rattle.samples.specs.Sets.{LargestUnder}
 use Rattle.samples.proofs.Settled.{largest_under}

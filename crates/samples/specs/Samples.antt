@@ -6,8 +6,8 @@ use Rattle.catalog.specs.Meaning.{Meaning, allowed}
 use Rattle.house.specs.House.{house}
 use Rattle.samples.specs.Small.{ordered, crossed}
 use Rattle.sheet_format.specs.Verdict.{verdict}
-use Rattle.sheet_format.specs.Meant.{sheet_in}
-use Rattle.sheet_format.specs.Placed.{SizesOf}
+use Rattle.sheet_catalog.specs.Meant.{sheet_in}
+use Rattle.sheet_catalog.specs.Placed.{SizesOf}
 use Rattle.samples.specs.Chain.{chain_bytes, chain}
 use Rattle.samples.specs.Sets.{LargestUnder, sets_of}
 

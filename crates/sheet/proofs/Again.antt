@@ -11,11 +11,11 @@ use Rattle.sheet_format.specs.Decoding.{rows_in, sum_in}
 use Rattle.sheet_format.specs.Reading.{Shown, shows_heading, shows_variable, shows_sum, shows_table, shows_short_table, shows_add, shows_retract, shows_end}
 use Rattle.sheet_format.specs.Verdict.{Tally, between}
 use Rattle.sheet_format.specs.Writing.{entry_record}
-use Rattle.sheet_format.proofs.NumberLaws.{Bytes}
-use Rattle.sheet_format.proofs.Held.{GoesHeld, EndHeld}
-use Rattle.sheet_format.proofs.Shows.{KindIs}
-use Rattle.sheet_format.proofs.Rows.{RowsBack, rows_back}
-use Rattle.sheet_format.proofs.Items.{same_raw, two_numbers, one_number, sum_again}
+use Rattle.sheet_law.proofs.NumberLaws.{Bytes}
+use Rattle.sheet_law.proofs.Held.{GoesHeld, EndHeld}
+use Rattle.sheet_law.proofs.Shows.{KindIs}
+use Rattle.sheet_law.proofs.Rows.{RowsBack, rows_back}
+use Rattle.sheet_law.proofs.Items.{same_raw, two_numbers, one_number, sum_again}
 use Rattle.sheet.specs.Sizes.{SizesLow}
 use Rattle.sheet.specs.Copying.{Sayable, entry_in}
 

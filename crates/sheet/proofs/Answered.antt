@@ -6,8 +6,8 @@ use Rattle.sheet_format.specs.declared.faults.RecordCause.{RecordCause}
 use Rattle.sheet_format.specs.Faults.{counted_result}
 use Rattle.sheet_format.specs.Reading.{Shown, taken, reading}
 use Rattle.sheet_format.specs.Verdict.{Tally, Verdict, goes, step, after_step, after_reading, walked}
-use Rattle.sheet_format.proofs.Framing.{Took, took}
-use Rattle.sheet_format.proofs.Held.{step_moves}
+use Rattle.sheet_law.proofs.Framing.{Took, took}
+use Rattle.sheet_law.proofs.Held.{step_moves}
 use Rattle.sheet.specs.declared.checking.Walk.{Walk}
 use Rattle.sheet.specs.declared.reader.Part.{Part}
 use Rattle.sheet.specs.declared.reader.Record.{Record}

@@ -9,7 +9,7 @@ use Rattle.std.proofs.lemmas.Nat.{div_below, le-div}
 use Rattle.sheet_format.specs.Numbers.{number8}
 use Rattle.sheet_format.specs.Verdict.{rows_good}
 use Rattle.sheet_format.specs.Decoding.{rows_in}
-use Rattle.sheet_format.proofs.NumberLaws.{number8-drop}
+use Rattle.sheet_law.proofs.NumberLaws.{number8-drop}
 
 -- the row that the first eight bytes are
 pub first_row : (xs : List ℕ) → from_le_bytes w64 (take 8 xs) ≡ number8 xs 0

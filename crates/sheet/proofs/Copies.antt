@@ -17,14 +17,14 @@ use Rattle.sheet_format.specs.Beginnings.{Begun, records_begun, bytes_begun, Kee
 use Rattle.sheet_format.specs.Reading.{Shown, shown, Reading, taken, broken, reading}
 use Rattle.sheet_format.specs.Verdict.{Tally, nothing_yet, Step, goes, ends, stops, step, summary, Verdict, format_fault, after_step, after_reading, walked}
 use Rattle.sheet_format.specs.Writing.{entry_record, Pen, new_pen, lies_in, put_step, put, laid, Puts, PutsRecord, PutsEntry}
-use Rattle.sheet_format.proofs.NumberLaws.{Bytes}
-use Rattle.sheet_format.proofs.Framing.{Short, took, Framed, framed_again, framed_first}
-use Rattle.sheet_format.proofs.Held.{GoesHeld, goes_held, end_held}
-use Rattle.sheet_format.proofs.Shows.{KindIs, kind_is}
-use Rattle.sheet_format.proofs.Tallies.{past, bytes_more, place_more}
-use Rattle.sheet_format.proofs.Extending.{Extends, extends}
-use Rattle.sheet_format.proofs.Laws.{nothing_keeps}
-use Rattle.sheet_format.proofs.Growing.{Put, put_on, put_end, put_is, lies_is}
+use Rattle.sheet_law.proofs.NumberLaws.{Bytes}
+use Rattle.sheet_law.proofs.Framing.{Short, took, Framed, framed_again, framed_first}
+use Rattle.sheet_law.proofs.Held.{GoesHeld, goes_held, end_held}
+use Rattle.sheet_law.proofs.Shows.{KindIs, kind_is}
+use Rattle.sheet_law.proofs.Tallies.{past, bytes_more, place_more}
+use Rattle.sheet_law.proofs.Extending.{Extends, extends}
+use Rattle.sheet_law.proofs.Laws.{nothing_keeps}
+use Rattle.sheet_law.proofs.Growing.{Put, put_on, put_end, put_is, lies_is}
 use Rattle.sheet.specs.Sizes.{SizesLow}
 use Rattle.sheet.specs.declared.reader.Part.{Part}
 use Rattle.sheet.specs.declared.reader.Record.{Record}

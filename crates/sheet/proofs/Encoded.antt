@@ -1,7 +1,7 @@
 -- The law of sheets at an accepted sheet.
 use Rattle.std.proofs.Common.{sym, subst}
 use Rattle.sheet_format.specs.Law.{Law, Encodes}
-use Rattle.sheet_format.proofs.Laws.{law_at}
+use Rattle.sheet_law.proofs.Laws.{law_at}
 use Rattle.sheet.specs.declared.accepted.Accepted.{Accepted}
 
 pub encoded : (s : Accepted) → Encodes s.bytes.now s.found

@@ -15,8 +15,8 @@ use Rattle.sheet_format.specs.Decoding.{decode}
 use Rattle.sheet_format.specs.Law.{Encodes, summary_of}
 use Rattle.sheet.specs.declared.accepted.Accepted.{Accepted}
 use Rattle.sheet.proofs.Encoded.{encoded}
-use Rattle.sheet_format.proofs.NumberLaws.{two_back}
-use Rattle.sheet_format.proofs.Framing.{variables_long}
+use Rattle.sheet_law.proofs.NumberLaws.{two_back}
+use Rattle.sheet_law.proofs.Framing.{variables_long}
 use Rattle.sheet.specs.Moves.{move_of, move_by_kind}
 
 -- a number that no kind has is not that of an add

@@ -6,7 +6,7 @@ use Rattle.sheet_format.specs.declared.writing.WriteFault.TheVariants.{Closed}
 use Rattle.sheet_format.specs.Beginnings.{Begun, nothing_begun}
 use Rattle.sheet_format.specs.Writing.{Entry, heads, has_variable, has_constraint, has_move, ends_here, Pen, closed, PutsEntry, Abandons}
 use Rattle.sheet_format.specs.Written.{begun_with, Written, Whole, Grown, Grows}
-use Rattle.sheet_format.proofs.Growing.{end_closes}
+use Rattle.sheet_law.proofs.Growing.{end_closes}
 use Rattle.sheet.specs.declared.calls.Call.{Call}
 use Rattle.sheet.specs.Calls.{asked, Makes, Runs, Placed, one_put, all_put, begun_from, begun_by, is_the_end, end_place, Stands, unended, whole}
 

@@ -5,8 +5,8 @@ use Rattle.sheet_format.specs.declared.faults.RecordCause.TheVariants.{UnknownKi
 use Rattle.sheet_format.specs.Numbers.{number2}
 use Rattle.sheet_format.specs.Kinds.{kind_number}
 use Rattle.sheet_format.specs.Reading.{Shown, shown, reading, taken, broken}
-use Rattle.sheet_format.proofs.Framing.{body_cut, whole_record}
-use Rattle.sheet_format.proofs.Alone.{unknown}
+use Rattle.sheet_law.proofs.Framing.{body_cut, whole_record}
+use Rattle.sheet_law.proofs.Alone.{unknown}
 
 -- a record of a kind, and one whose number no kind has
 pub known_record : (xs : List ℕ) (place n k number : ℕ) (body : List ℕ) (s : Shown) → 4 ≤ length xs → n ≡ number2 xs 0 → 4 ≤ n → n ≤ length xs

@@ -163,7 +163,7 @@ fn table_body(left: u8, right: u8, rows: &[u64]) -> ArrayVec<u8, 522>
 
 impl Writer {
     // A writer that has written nothing.
-    #[tactic(auto, using(sheet_format::proofs::Growing::nothing_written))]
+    #[tactic(auto, using(sheet_law::proofs::Growing::nothing_written))]
     pub fn new() -> Writer
         ensures call { result ≡ new_pen }
         ensures written { (xs : List ℕ) → Written nothing_begun result xs }
@@ -207,7 +207,7 @@ impl Writer {
     }
 
     // Writes the heading: the start word 1, and how many variables follow. Like each call, it answers the place reached.
-    #[tactic(auto, using(crate::proofs::Entries::put_entry, sheet_format::proofs::Growing::grows))]
+    #[tactic(auto, using(crate::proofs::Entries::put_entry, sheet_law::proofs::Growing::grows))]
     pub fn heading(&mut self, buffer: &mut [u8], n: u16) -> Result<usize, WriteFault>
         ensures call { PutsEntry self.old buffer.old (heads n) self.new buffer.new result }
         ensures written { (b : Begun) → Written b self.old buffer.old → Grows b (heads n) self.new buffer.new result }
@@ -216,7 +216,7 @@ impl Writer {
     }
 
     // Writes a variable.
-    #[tactic(auto, using(crate::proofs::Entries::put_entry, sheet_format::proofs::Growing::grows))]
+    #[tactic(auto, using(crate::proofs::Entries::put_entry, sheet_law::proofs::Growing::grows))]
     pub fn variable(&mut self, buffer: &mut [u8], variable: Variable) -> Result<usize, WriteFault>
         ensures call { PutsEntry self.old buffer.old (has_variable variable) self.new buffer.new result }
         ensures written { (b : Begun) → Written b self.old buffer.old → Grows b (has_variable variable) self.new buffer.new result }
@@ -257,7 +257,7 @@ impl Writer {
     }
 
     // Writes a move that adds the constraint at an index.
-    #[tactic(auto, using(crate::proofs::Entries::put_entry, sheet_format::proofs::Growing::grows))]
+    #[tactic(auto, using(crate::proofs::Entries::put_entry, sheet_law::proofs::Growing::grows))]
     pub fn add(&mut self, buffer: &mut [u8], index: u16) -> Result<usize, WriteFault>
         ensures call { PutsEntry self.old buffer.old (has_move (add index)) self.new buffer.new result }
         ensures written { (b : Begun) → Written b self.old buffer.old → Grows b (has_move (add index)) self.new buffer.new result }
@@ -266,7 +266,7 @@ impl Writer {
     }
 
     // Writes a move that retracts the constraint at an index.
-    #[tactic(auto, using(crate::proofs::Entries::put_entry, sheet_format::proofs::Growing::grows))]
+    #[tactic(auto, using(crate::proofs::Entries::put_entry, sheet_law::proofs::Growing::grows))]
     pub fn retract(&mut self, buffer: &mut [u8], index: u16) -> Result<usize, WriteFault>
         ensures call { PutsEntry self.old buffer.old (has_move (retract index)) self.new buffer.new result }
         ensures written { (b : Begun) → Written b self.old buffer.old → Grows b (has_move (retract index)) self.new buffer.new result }
@@ -275,7 +275,7 @@ impl Writer {
     }
 
     // Writes the end. The sheet is whole, and the writer may be let go.
-    #[tactic(auto, using(crate::proofs::Entries::put_entry, sheet_format::proofs::Growing::grows))]
+    #[tactic(auto, using(crate::proofs::Entries::put_entry, sheet_law::proofs::Growing::grows))]
     pub fn end(&mut self, buffer: &mut [u8]) -> Result<usize, WriteFault>
         ensures call { PutsEntry self.old buffer.old ends_here self.new buffer.new result }
         ensures written { (b : Begun) → Written b self.old buffer.old → Grows b ends_here self.new buffer.new result }

@@ -8,7 +8,7 @@ use Rattle.catalog.specs.declared.refusal.Refusal.TheVariants.{VariableCount, Do
 use Rattle.catalog.specs.Causes.{sizes_fit, sizes_refusal}
 use Rattle.sheet_format.specs.Value.{Sheet, no_variable, size_at, house_at, ValidVariable}
 use Rattle.sheet_format.specs.Encoding.{Valid}
-use Rattle.sheet_format.specs.Placed.{SizesOf}
+use Rattle.sheet_catalog.specs.Placed.{SizesOf}
 use Rattle.sheet_catalog.proofs.Everyone.{Has, everyone}
 
 both : (a b : ℕ) → 0 < a → a ≤ b → (ltb 0 a && ltb a (b + 1)) ≡ true

@@ -1,3 +1,6 @@
+mod Lawfulness
+mod Read
+mod Variables
 mod ReadBack
 mod TableRows
 mod Terms

@@ -7,12 +7,12 @@ use Rattle.sheet_format.specs.declared.found.Variable.{Variable}
 use Rattle.sheet_format.specs.Value.{Constraint, sum, table, Sheet, ValidVariable, ValidConstraint}
 use Rattle.sheet_format.specs.Encoding.{Raw, framed, constraint_record, Valid}
 use Rattle.sheet_format.specs.Reading.{shows_short_table, shown, reading, taken_if}
-use Rattle.sheet_format.proofs.Framing.{Short, framed_read}
-use Rattle.sheet_format.proofs.Laws.{constraint_back}
-use Rattle.sheet_format.specs.Meant.{left_end, right_end, constraint_at, meaning_of, sheet_in}
-use Rattle.sheet_format.specs.Begun.{BeginsAt}
-use Rattle.sheet_format.proofs.Lawfulness.{valid_with_constraint, constraint_valid, bytes_lawful, good_ends}
-use Rattle.sheet_format.proofs.Read.{begun_rest, constraint_short}
+use Rattle.sheet_law.proofs.Framing.{Short, framed_read}
+use Rattle.sheet_law.proofs.Laws.{constraint_back}
+use Rattle.sheet_catalog.specs.Meant.{left_end, right_end, constraint_at, meaning_of, sheet_in}
+use Rattle.sheet_catalog.specs.Begun.{BeginsAt}
+use Rattle.sheet_catalog.proofs.Lawfulness.{valid_with_constraint, constraint_valid, bytes_lawful, good_ends}
+use Rattle.sheet_catalog.proofs.Read.{begun_rest, constraint_short}
 use Rattle.sheet_catalog.specs.Viewed.{meant_by, meant, constraint_shown, constraint_read}
 use Rattle.sheet_catalog.specs.declared.SheetCatalog.{SheetCatalog}
 use Rattle.sheet_catalog.specs.declared.view.Constraint as view

@@ -4,8 +4,8 @@ use Rattle.std.proofs.lemmas.Bool.{lt-ltb, le-ltb}
 use Rattle.bits.specs.Bits.{has_bit}
 use Rattle.sheet_format.specs.Decoding.{rows_in}
 use Rattle.sheet_format.specs.Numbers.{number8}
-use Rattle.sheet_format.proofs.NumberLaws.{number8-drop}
-use Rattle.sheet_format.specs.Meant.{table_allows}
+use Rattle.sheet_law.proofs.NumberLaws.{number8-drop}
+use Rattle.sheet_catalog.specs.Meant.{table_allows}
 
 rows_long : (count : ℕ) (xs : List ℕ) → length (rows_in count xs) ≡ count
 unfolding rows_in

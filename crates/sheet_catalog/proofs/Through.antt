@@ -6,10 +6,10 @@ use Rattle.sheet.proofs.Encoded.{encoded}
 use Rattle.sheet_format.specs.Numbers.{number2}
 use Rattle.sheet_format.specs.Encoding.{constraint_record}
 use Rattle.sheet_format.specs.Decoding.{decode}
-use Rattle.sheet_format.specs.Meant.{sheet_in, constraint_at}
-use Rattle.sheet_format.specs.Begun.{BeginsAt, Begun}
-use Rattle.sheet_format.proofs.Lawfulness.{accepted_in, counted_in}
-use Rattle.sheet_format.proofs.Read.{Stepped, stepped_in, from_constraint, first_place, few_in, begun_more}
+use Rattle.sheet_catalog.specs.Meant.{sheet_in, constraint_at}
+use Rattle.sheet_catalog.specs.Begun.{BeginsAt, Begun}
+use Rattle.sheet_catalog.proofs.Lawfulness.{accepted_in, counted_in}
+use Rattle.sheet_catalog.proofs.Read.{Stepped, stepped_in, from_constraint, first_place, few_in, begun_more}
 
 pub few_at : (s : Accepted) → s.found.constraints ≤ 96
 few_at s = few_in s.bytes.now s.found (encoded s)

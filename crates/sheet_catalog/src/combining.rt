@@ -3,7 +3,7 @@ ghost use Rattle.std.specs.Prelude.{◌≡◌};
 ghost use Rattle.catalog.specs.Joined.{joined};
 ghost use Rattle.catalog.specs.Renumbered.{renumbered};
 ghost use Rattle.house.specs.House.{house};
-ghost use Rattle.sheet_format.specs.Meant.{meaning_of, sheet_in};
+ghost use Rattle.sheet_catalog.specs.Meant.{meaning_of, sheet_in};
 ghost use Rattle.sheet_catalog.specs.Combined.{combined_of};
 
 use crate::SheetCatalog;

@@ -3,9 +3,9 @@
 #![tactic(auto)]
 
 ghost use Rattle.std.specs.Prelude.{◌≡◌, ℕ, ◌<◌, ◌≤◌, length, slice_index};
-ghost use Rattle.sheet_format.specs.Meant.{meaning_of, sheet_in};
-ghost use Rattle.sheet_format.specs.Begun.{Begun};
-ghost use Rattle.sheet_format.proofs.Lawfulness.{bytes_lawful};
+ghost use Rattle.sheet_catalog.specs.Meant.{meaning_of, sheet_in};
+ghost use Rattle.sheet_catalog.specs.Begun.{Begun};
+ghost use Rattle.sheet_catalog.proofs.Lawfulness.{bytes_lawful};
 
 use catalog::Catalog;
 

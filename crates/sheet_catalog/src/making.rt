@@ -1,7 +1,7 @@
 // Making a catalog over a sheet's bytes.
 ghost use Rattle.std.specs.Prelude.{◌≡◌, if◌then◌else◌, Some, None, nat_lt};
 ghost use Rattle.std.specs.Option.{option_map};
-ghost use Rattle.sheet_format.specs.Meant.{constraint_at, sheet_in};
+ghost use Rattle.sheet_catalog.specs.Meant.{constraint_at, sheet_in};
 ghost use Rattle.sheet_catalog.specs.Viewed.{meant};
 
 use crate::SheetCatalog;

@@ -1,8 +1,8 @@
 // The numbering of variables that a sheet gives.
 ghost use Rattle.std.specs.Prelude.{◌≡◌, ℕ, ◌<◌, length, slice_index};
 ghost use Rattle.sheet_format.specs.Decoding.{decode};
-ghost use Rattle.sheet_format.specs.Meant.{sheet_in};
-ghost use Rattle.sheet_format.specs.Placed.{number_of, numbers_of};
+ghost use Rattle.sheet_catalog.specs.Meant.{sheet_in};
+ghost use Rattle.sheet_catalog.specs.Placed.{number_of, numbers_of};
 
 use crate::variables::variable_at;
 use catalog::numbering::Numbering;
@@ -38,7 +38,7 @@ pub fn numbering_of(sheet: &Accepted<'_>) -> Numbering
 }
 
 // The same of any bytes. For a sheet that the check refuses each entry is its own index.
-#[tactic(auto, using(sheet_format::proofs::Variables::own_numbers))]
+#[tactic(auto, using(crate::proofs::Variables::own_numbers))]
 pub fn numbering(bytes: &[u8]) -> Numbering
     ensures { result.to ≡ numbers_of (sheet_in bytes.now) }
 {

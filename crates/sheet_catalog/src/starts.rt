@@ -2,8 +2,8 @@
 ghost use Rattle.std.specs.Prelude.{◌≡◌, ℕ, ◌<◌, ◌≤◌, length, drop};
 ghost use Rattle.std.specs.Option.{option_map};
 ghost use Rattle.sheet_format.specs.Reading.{reading};
-ghost use Rattle.sheet_format.specs.Meant.{sheet_in};
-ghost use Rattle.sheet_format.specs.Begun.{Begun};
+ghost use Rattle.sheet_catalog.specs.Meant.{sheet_in};
+ghost use Rattle.sheet_catalog.specs.Begun.{Begun};
 ghost use Rattle.sheet_catalog.specs.Viewed.{meant, constraint_read};
 
 use crate::view::{Constraint, constraint_in};

@@ -3,7 +3,7 @@ ghost use Rattle.std.specs.Prelude.{◌≡◌, ◌+◌, ◌*◌, ◌/◌, ◌<�
 ghost use Rattle.std.specs.Option.{option_map};
 ghost use Rattle.sheet_format.specs.Decoding.{rows_in};
 ghost use Rattle.sheet_format.specs.Verdict.{between_z};
-ghost use Rattle.sheet_format.specs.Meant.{sum_allows, table_allows, pair_allowed};
+ghost use Rattle.sheet_catalog.specs.Meant.{sum_allows, table_allows, pair_allowed};
 ghost use Rattle.sheet.specs.Outcome.{shown_by};
 ghost use Rattle.sheet_catalog.specs.Viewed.{meant, sum_shown, constraint_shown};
 

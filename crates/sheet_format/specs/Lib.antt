@@ -12,6 +12,3 @@ pub mod Law
 pub mod Lines
 pub mod Writing
 pub mod Written
-pub mod Meant
-pub mod Begun
-pub mod Placed

@@ -2,8 +2,8 @@
 ghost use Rattle.std.specs.Prelude.{◌≡◌, ℕ, ◌<◌, None, length, slice_index};
 ghost use Rattle.catalog.specs.Causes.{sizes_refusal};
 ghost use Rattle.sheet_format.specs.Decoding.{decode};
-ghost use Rattle.sheet_format.specs.Meant.{sheet_in};
-ghost use Rattle.sheet_format.specs.Placed.{size_of_house, SizesOf};
+ghost use Rattle.sheet_catalog.specs.Meant.{sheet_in};
+ghost use Rattle.sheet_catalog.specs.Placed.{size_of_house, SizesOf};
 ghost use Rattle.sheet_catalog.specs.Sizes.{listed};
 
 use crate::sizes::Sizes;
@@ -12,7 +12,7 @@ use sheet::Accepted;
 use std::array;
 
 // the size of the variable whose house number is h
-#[tactic(auto, using(crate::proofs::Known::many, sheet_format::proofs::Variables::house_nowhere))]
+#[tactic(auto, using(crate::proofs::Known::many, crate::proofs::Variables::house_nowhere))]
 fn size_of_house(sheet: &Accepted<'_>, h: usize) -> usize
     ensures { result ≡ size_of_house (decode sheet.now.bytes.now).variables h }
 {

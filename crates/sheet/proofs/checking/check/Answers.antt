@@ -2,7 +2,7 @@ use Rattle.std.proofs.Common.{◌≡◌, ltb, length, sym, ◌∙◌, subst}
 use Rattle.std.proofs.lemmas.Bool.{le-ltb, cond-false}
 use Rattle.sheet_format.specs.Verdict.{Verdict, verdict}
 use Rattle.sheet_format.specs.Law.{Law}
-use Rattle.sheet_format.proofs.Laws.{law_at}
+use Rattle.sheet_law.proofs.Laws.{law_at}
 use Rattle.sheet.proofs.checking.check.Goals as goal
 
 pub returns : goal.returns

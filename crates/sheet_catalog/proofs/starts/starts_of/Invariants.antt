@@ -1,7 +1,7 @@
 use Rattle.std.proofs.Common.{◌≡◌, ℕ, ◌<◌, length, drop}
 use Rattle.sheet_format.specs.Decoding.{decode}
-use Rattle.sheet_format.specs.Begun.{Begun}
-use Rattle.sheet_format.proofs.Read.{from_constraint}
+use Rattle.sheet_catalog.specs.Begun.{Begun}
+use Rattle.sheet_catalog.proofs.Read.{from_constraint}
 use Rattle.sheet_catalog.proofs.starts.starts_of.Given as goal
 
 -- the constraints so far begin where the list says, and from the place reached on the next one and all after it follow

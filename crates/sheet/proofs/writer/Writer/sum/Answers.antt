@@ -1,7 +1,7 @@
 use Rattle.std.proofs.Common.{rules}
 use Rattle.sheet_format.specs.Value.{sum}
 use Rattle.sheet_format.specs.Writing.{has_constraint, PutsEntry}
-use Rattle.sheet_format.proofs.Growing.{grows}
+use Rattle.sheet_law.proofs.Growing.{grows}
 use Rattle.sheet.proofs.Entries.{put_entry}
 use Rattle.sheet.proofs.writer.Writer.sum.Goals as goal
 

@@ -2,7 +2,7 @@ use Rattle.std.proofs.Common.{◌<◌, ◌^◌, take, ◌∙◌, subst, rules}
 use Rattle.std.proofs.ByRecursion.{All-from_get_or}
 use Rattle.sheet_format.specs.Value.{table}
 use Rattle.sheet_format.specs.Writing.{has_constraint, PutsEntry}
-use Rattle.sheet_format.proofs.Growing.{grows}
+use Rattle.sheet_law.proofs.Growing.{grows}
 use Rattle.sheet.specs.Sizes.{SizesLow}
 use Rattle.sheet.proofs.Entries.{put_entry}
 use Rattle.sheet.proofs.Limits.{few_rows}

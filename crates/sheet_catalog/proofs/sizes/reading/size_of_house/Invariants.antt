@@ -1,6 +1,6 @@
 use Rattle.std.proofs.Common.{◌≡◌, drop}
 use Rattle.sheet_format.specs.Decoding.{decode}
-use Rattle.sheet_format.specs.Placed.{size_of_house}
+use Rattle.sheet_catalog.specs.Placed.{size_of_house}
 use Rattle.sheet_catalog.proofs.sizes.reading.size_of_house.Given as goal
 
 -- what is left of the variables gives the size

@@ -8,7 +8,7 @@ use Rattle.sheet_format.specs.declared.found.Variable.{Variable}
 use Rattle.sheet_format.specs.Numbers.{two, number2}
 use Rattle.sheet_format.specs.Encoding.{Raw, framed, variable_record}
 use Rattle.sheet_format.specs.Reading.{Shown, shown, Reading, taken, broken, taken_if, reading}
-use Rattle.sheet_format.proofs.NumberLaws.{two_back, Bytes, word_at}
+use Rattle.sheet_law.proofs.NumberLaws.{two_back, Bytes, word_at}
 
 -- the bytes of a record's body, and those after it, cut from what follows the head
 pub body_cut : (xs : List ℕ) (n : ℕ) → 4 ≤ n → take (n - 4) (drop 4 xs) ≡ drop 4 (take n xs)

@@ -10,13 +10,13 @@ use Rattle.sheet_format.specs.Value.{Constraint, sum, table, Sheet, size_at, Val
 use Rattle.sheet_format.specs.Encoding.{Raw, framed, heading_record, variable_record, constraint_record, move_record, end_record, encode, Valid}
 use Rattle.sheet_format.specs.Decoding.{decode}
 use Rattle.sheet_format.specs.Law.{Encodes}
-use Rattle.sheet_format.proofs.NumberLaws.{number2-drop}
-use Rattle.sheet_format.proofs.Framing.{Short, framed-length, variables_long, framed_first}
-use Rattle.sheet_format.proofs.Rows.{rows_there}
-use Rattle.sheet_format.proofs.Forward.{size_low}
-use Rattle.sheet_format.specs.Meant.{constraint_at, no_constraint}
-use Rattle.sheet_format.specs.Begun.{BeginsAt, Begun}
-use Rattle.sheet_format.proofs.Lawfulness.{constraint_valid}
+use Rattle.sheet_law.proofs.NumberLaws.{number2-drop}
+use Rattle.sheet_law.proofs.Framing.{Short, framed-length, variables_long, framed_first}
+use Rattle.sheet_law.proofs.Rows.{rows_there}
+use Rattle.sheet_law.proofs.Forward.{size_low}
+use Rattle.sheet_catalog.specs.Meant.{constraint_at, no_constraint}
+use Rattle.sheet_catalog.specs.Begun.{BeginsAt, Begun}
+use Rattle.sheet_catalog.proofs.Lawfulness.{constraint_valid}
 
 -- the bytes after the constraints
 abbrev pub after_constraints : Sheet → List ℕ

@@ -9,8 +9,8 @@ use Rattle.sheet_format.specs.Faults.{fault_records}
 use Rattle.sheet_format.specs.Encoding.{Raw, framed}
 use Rattle.sheet_format.specs.Reading.{Shown, shown, Reading, taken, broken, taken_if, reading}
 use Rattle.sheet_format.specs.Verdict.{Tally, Step, goes, ends, stops, step, summary, Verdict, format_fault, after_step, after_reading, walked}
-use Rattle.sheet_format.proofs.Framing.{Short, framed-length, framed_read}
-use Rattle.sheet_format.proofs.Tallies.{past}
+use Rattle.sheet_law.proofs.Framing.{Short, framed-length, framed_read}
+use Rattle.sheet_law.proofs.Tallies.{past}
 
 -- records that take a tally, at a place, to another
 abbrev pub Reaches : Tally → ℕ → List Raw → Tally → Type 0

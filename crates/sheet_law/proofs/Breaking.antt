@@ -13,11 +13,11 @@ use Rattle.sheet_format.specs.Beginnings.{Begun, Keeps, begun_tally}
 use Rattle.sheet_format.specs.Rules.{Rule, rule, HeadingSays, SizeGiven, HouseFree, FormulaFits, constraint_rules, rules, FirstBroken, AllKept}
 use Rattle.sheet_format.specs.Reading.{Shown, shows_heading, shows_variable, shows_sum, shows_table, shows_short_table, shows_add, shows_retract, shows_end, shown}
 use Rattle.sheet_format.specs.Verdict.{Tally, Step, goes, ends, stops, unless, between, between_z, used, house_good, ends_good, sum_good, step, heading_step, variable_step, constraint_step, sum_step, table_step, move_step, end_step}
-use Rattle.sheet_format.proofs.Shows.{two_first, KindIs, kind_is}
-use Rattle.sheet_format.proofs.Rows.{rows_fit, fit_rows}
-use Rattle.sheet_format.proofs.Items.{between_is, is_between, ends_valid, valid_ends, le_z_is, is_le_z}
-use Rattle.sheet_format.proofs.Houses.{used_found, used_none}
-use Rattle.sheet_format.proofs.Tallies.{complete_is, is_complete, due_is, is_due}
+use Rattle.sheet_law.proofs.Shows.{two_first, KindIs, kind_is}
+use Rattle.sheet_law.proofs.Rows.{rows_fit, fit_rows}
+use Rattle.sheet_law.proofs.Items.{between_is, is_between, ends_valid, valid_ends, le_z_is, is_le_z}
+use Rattle.sheet_law.proofs.Houses.{used_found, used_none}
+use Rattle.sheet_law.proofs.Tallies.{complete_is, is_complete, due_is, is_due}
 
 -- a test that says what a rule says
 record Tests (test : Bool) (P : Type 0) : Type 0 where

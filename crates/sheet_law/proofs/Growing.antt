@@ -16,16 +16,16 @@ use Rattle.sheet_format.specs.Reading.{Shown, shows_end}
 use Rattle.sheet_format.specs.Verdict.{Tally, Step, goes, ends, stops, step, variable_of, verdict}
 use Rattle.sheet_format.specs.Writing.{Entry, heads, has_variable, has_constraint, has_move, ends_here, entry_record, Pen, new_pen, lies_in, put_step, put, laid, PutsEntry}
 use Rattle.sheet_format.specs.Written.{begun_with, Written, Whole, Grown, WhyRefused, Grows}
-use Rattle.sheet_format.proofs.NumberLaws.{two_back, Bytes}
-use Rattle.sheet_format.proofs.Held.{GoesHeld, goes_held, end_held}
-use Rattle.sheet_format.proofs.Shows.{KindIs, kind_is}
-use Rattle.sheet_format.proofs.Tallies.{past, same_begun, bytes_more, place_more, complete_is}
-use Rattle.sheet_format.proofs.Rows.{rows_there}
-use Rattle.sheet_format.proofs.Refusing.{end_shows, end_stays, last_kind, why_refused}
-use Rattle.sheet_format.proofs.Items.{sum_back}
-use Rattle.sheet_format.proofs.Extending.{begun_with_raw, Extends, extends}
-use Rattle.sheet_format.proofs.Sheets.{ended_bytes, begun_valid}
-use Rattle.sheet_format.proofs.Laws.{decode-encode, encoded_accepted, nothing_keeps}
+use Rattle.sheet_law.proofs.NumberLaws.{two_back, Bytes}
+use Rattle.sheet_law.proofs.Held.{GoesHeld, goes_held, end_held}
+use Rattle.sheet_law.proofs.Shows.{KindIs, kind_is}
+use Rattle.sheet_law.proofs.Tallies.{past, same_begun, bytes_more, place_more, complete_is}
+use Rattle.sheet_law.proofs.Rows.{rows_there}
+use Rattle.sheet_law.proofs.Refusing.{end_shows, end_stays, last_kind, why_refused}
+use Rattle.sheet_law.proofs.Items.{sum_back}
+use Rattle.sheet_law.proofs.Extending.{begun_with_raw, Extends, extends}
+use Rattle.sheet_law.proofs.Sheets.{ended_bytes, begun_valid}
+use Rattle.sheet_law.proofs.Laws.{decode-encode, encoded_accepted, nothing_keeps}
 
 -- the bytes up to the end of those laid down
 take_laid : (place : ℕ) (bytes xs : List ℕ) → place ≤ length xs → take (place + length bytes) (laid place bytes xs) ≡ take place xs ++ bytes

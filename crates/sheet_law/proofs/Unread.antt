@@ -12,8 +12,8 @@ use Rattle.sheet_format.specs.Faults.{record_number}
 use Rattle.sheet_format.specs.Beginnings.{Begun}
 use Rattle.sheet_format.specs.Rules.{Wrong, none_left, cut_off, no_kind}
 use Rattle.sheet_format.specs.Reading.{Shown, shown, broken, taken_if, reading}
-use Rattle.sheet_format.proofs.NumberLaws.{Bytes}
-use Rattle.sheet_format.proofs.Framing.{Cut, cut_again}
+use Rattle.sheet_law.proofs.NumberLaws.{Bytes}
+use Rattle.sheet_law.proofs.Framing.{Cut, cut_again}
 
 same_cause : (c d : RecordCause) → broken c ≡ broken d → d ≡ c
 same_cause c d e = cc

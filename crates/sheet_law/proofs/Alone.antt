@@ -15,10 +15,10 @@ use Rattle.sheet_format.specs.Rules.{Stands, CutOff, Wrong, none_left, cut_off, 
 use Rattle.sheet_format.specs.Law.{Says}
 use Rattle.sheet_format.specs.Reading.{shown, broken, taken_if, reading}
 use Rattle.sheet_format.specs.Verdict.{Verdict, after_step, after_reading, walked}
-use Rattle.sheet_format.proofs.Framing.{Short, framed_read}
-use Rattle.sheet_format.proofs.Tallies.{past}
-use Rattle.sheet_format.proofs.Walks.{first_step, same_fault}
-use Rattle.sheet_format.proofs.Breaking.{OfKind, of_kind}
+use Rattle.sheet_law.proofs.Framing.{Short, framed_read}
+use Rattle.sheet_law.proofs.Tallies.{past}
+use Rattle.sheet_law.proofs.Walks.{first_step, same_fault}
+use Rattle.sheet_law.proofs.Breaking.{OfKind, of_kind}
 
 -- a number that no kind has shows no record
 pub unknown : (number : ℕ) (body : List ℕ) (place : ℕ) → ((kind : Kind) → kind_number kind ≢ number) → shown number body place ≡ None

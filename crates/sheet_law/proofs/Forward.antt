@@ -13,13 +13,13 @@ use Rattle.sheet_format.specs.Encoding.{Raw, framed, heading_record, variable_re
 use Rattle.sheet_format.specs.Beginnings.{Begun, records_begun, Keeps, begun_tally}
 use Rattle.sheet_format.specs.Reading.{Shown, shows_heading, shows_variable, shows_sum, shows_table, shows_add, shows_retract, shown}
 use Rattle.sheet_format.specs.Verdict.{Tally, nothing_yet, Step, goes, unless, step, complete, constraints_due, between, used, house_good, ends_good, sum_body_good, rows_good, variable_of, with_move}
-use Rattle.sheet_format.proofs.NumberLaws.{two_back}
-use Rattle.sheet_format.proofs.Framing.{variables_long}
-use Rattle.sheet_format.proofs.Tallies.{past, same_tally, headed, nothing_there}
-use Rattle.sheet_format.proofs.Walks.{Reaches, past_all, reaches_more}
-use Rattle.sheet_format.proofs.Rows.{rows_there}
-use Rattle.sheet_format.proofs.Items.{is_between, valid_ends, sum_there}
-use Rattle.sheet_format.proofs.Houses.{fresh}
+use Rattle.sheet_law.proofs.NumberLaws.{two_back}
+use Rattle.sheet_law.proofs.Framing.{variables_long}
+use Rattle.sheet_law.proofs.Tallies.{past, same_tally, headed, nothing_there}
+use Rattle.sheet_law.proofs.Walks.{Reaches, past_all, reaches_more}
+use Rattle.sheet_law.proofs.Rows.{rows_there}
+use Rattle.sheet_law.proofs.Items.{is_between, valid_ends, sum_there}
+use Rattle.sheet_law.proofs.Houses.{fresh}
 
 abbrev tally : ℕ → List Variable → ℕ → ℕ → ℕ → Tally
 tally n vs constraints moves reached = record { n = n; variables = vs; constraints = constraints; moves = moves; reached = reached }

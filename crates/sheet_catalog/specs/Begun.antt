@@ -2,7 +2,7 @@
 use Rattle.std.specs.Prelude.{◌≡◌, ℕ, List, length, take, drop, slice_index}
 use Rattle.sheet_format.specs.Encoding.{Raw, framed, constraint_record}
 use Rattle.sheet_format.specs.Value.{Sheet}
-use Rattle.sheet_format.specs.Meant.{constraint_at}
+use Rattle.sheet_catalog.specs.Meant.{constraint_at}
 
 -- from the byte `start` on, the bytes begin with the record r
 abbrev pub BeginsAt : List ℕ → ℕ → Raw → Type 0

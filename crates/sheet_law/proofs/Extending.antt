@@ -14,13 +14,13 @@ use Rattle.sheet_format.specs.Beginnings.{Begun, heading_begun, records_begun, b
 use Rattle.sheet_format.specs.Rules.{ConstraintDue}
 use Rattle.sheet_format.specs.Reading.{Shown, shows_heading, shows_variable, shows_sum, shows_table, shows_short_table, shows_add, shows_retract, shows_end}
 use Rattle.sheet_format.specs.Verdict.{Tally, between, used, ends_good, variable_of, with_constraint, with_move}
-use Rattle.sheet_format.proofs.NumberLaws.{Bytes}
-use Rattle.sheet_format.proofs.Held.{HeadingHeld, VariableHeld, GoesHeld}
-use Rattle.sheet_format.proofs.Shows.{KindIs}
-use Rattle.sheet_format.proofs.Rows.{RowsBack, rows_back}
-use Rattle.sheet_format.proofs.Items.{same_raw, between_is, two_numbers, one_number, ends_valid, sum_again, sum_valid}
-use Rattle.sheet_format.proofs.Houses.{differ_push}
-use Rattle.sheet_format.proofs.Tallies.{past, same_tally, same_begun, place_more, headed, nothing_there, variables_only, no_moves, complete_is, due_is}
+use Rattle.sheet_law.proofs.NumberLaws.{Bytes}
+use Rattle.sheet_law.proofs.Held.{HeadingHeld, VariableHeld, GoesHeld}
+use Rattle.sheet_law.proofs.Shows.{KindIs}
+use Rattle.sheet_law.proofs.Rows.{RowsBack, rows_back}
+use Rattle.sheet_law.proofs.Items.{same_raw, between_is, two_numbers, one_number, ends_valid, sum_again, sum_valid}
+use Rattle.sheet_law.proofs.Houses.{differ_push}
+use Rattle.sheet_law.proofs.Tallies.{past, same_tally, same_begun, place_more, headed, nothing_there, variables_only, no_moves, complete_is, due_is}
 
 -- a beginning with what one record more says
 abbrev pub begun_with_raw : Begun → Raw → Begun

@@ -12,15 +12,15 @@ use Rattle.sheet_format.specs.Beginnings.{Begun, AllThere, Keeps, records_begun,
 use Rattle.sheet_format.specs.Rules.{Wrong, breaks_rule}
 use Rattle.sheet_format.specs.Reading.{Shown, shows_heading, shows_variable, shows_sum, shows_table, shows_short_table, shows_add, shows_retract, shows_end, Reading, taken, broken, reading}
 use Rattle.sheet_format.specs.Verdict.{Tally, Step, goes, ends, stops, step, complete, summary, Verdict, format_fault, after_step, after_reading, walked}
-use Rattle.sheet_format.proofs.NumberLaws.{Bytes}
-use Rattle.sheet_format.proofs.Framing.{Took, took, Framed, framed_again, framed-length}
-use Rattle.sheet_format.proofs.Held.{goes_held, EndHeld, end_held}
-use Rattle.sheet_format.proofs.Shows.{KindIs, kind_is}
-use Rattle.sheet_format.proofs.Items.{same_raw}
-use Rattle.sheet_format.proofs.Tallies.{past, bytes_more, place_more, complete_is}
-use Rattle.sheet_format.proofs.Breaking.{breaks}
-use Rattle.sheet_format.proofs.Unread.{unread}
-use Rattle.sheet_format.proofs.Extending.{Extends, extends}
+use Rattle.sheet_law.proofs.NumberLaws.{Bytes}
+use Rattle.sheet_law.proofs.Framing.{Took, took, Framed, framed_again, framed-length}
+use Rattle.sheet_law.proofs.Held.{goes_held, EndHeld, end_held}
+use Rattle.sheet_law.proofs.Shows.{KindIs, kind_is}
+use Rattle.sheet_law.proofs.Items.{same_raw}
+use Rattle.sheet_law.proofs.Tallies.{past, bytes_more, place_more, complete_is}
+use Rattle.sheet_law.proofs.Breaking.{breaks}
+use Rattle.sheet_law.proofs.Unread.{unread}
+use Rattle.sheet_law.proofs.Extending.{Extends, extends}
 
 -- a beginning with all its variables, and the end record
 pub record Ended (bytes more : List ℕ) : Type 0 where

@@ -17,6 +17,3 @@ pub mod Alone
 pub mod Laws
 pub mod Refusing
 pub mod Growing
-pub mod Lawfulness
-pub mod Read
-pub mod Variables

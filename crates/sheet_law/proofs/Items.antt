@@ -10,7 +10,7 @@ use Rattle.sheet_format.specs.Value.{sum, ValidEnds, ValidSum}
 use Rattle.sheet_format.specs.Encoding.{Raw, constraint_record}
 use Rattle.sheet_format.specs.Decoding.{sum_in}
 use Rattle.sheet_format.specs.Verdict.{between, between_z, ends_good, sum_good, sum_body_good}
-use Rattle.sheet_format.proofs.NumberLaws.{two_back, four_back, Bytes, word_at, long_at}
+use Rattle.sheet_law.proofs.NumberLaws.{two_back, four_back, Bytes, word_at, long_at}
 
 -- a record from its kind and its body
 pub same_raw : (r : Raw) (kind : ℕ) (body : List ℕ) → r.kind ≡ kind → r.body ≡ body → r ≡ record { kind = kind; body = body }

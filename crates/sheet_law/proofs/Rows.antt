@@ -7,7 +7,7 @@ use Rattle.std.proofs.lemmas.Bool.{ltb-true, lt-ltb, and_parts, and_from}
 use Rattle.sheet_format.specs.Numbers.{eight, number8}
 use Rattle.sheet_format.specs.Verdict.{rows_good}
 use Rattle.sheet_format.specs.Decoding.{rows_in}
-use Rattle.sheet_format.proofs.NumberLaws.{eight_back, Bytes, row_first}
+use Rattle.sheet_law.proofs.NumberLaws.{eight_back, Bytes, row_first}
 
 -- the test of rows says that each has its bits below the size
 pub rows_fit : (count size : ℕ) (xs : List ℕ) → rows_good count size xs ≡ true → AllByRecursion (λ row. row < 2 ^ size) (rows_in count xs)

@@ -18,16 +18,16 @@ use Rattle.sheet_format.specs.Beginnings.{Begun, heading_begun, records_begun, b
 use Rattle.sheet_format.specs.Reading.{shows_end}
 use Rattle.sheet_format.specs.Verdict.{Tally, nothing_yet, step, ends, unless, summary, Verdict, format_fault, after_step, walked, verdict}
 use Rattle.sheet_format.specs.Law.{summary_of, Encodes, Says, Refused, too_long, trails, goes_wrong, Law}
-use Rattle.sheet_format.proofs.NumberLaws.{two_back, Bytes}
-use Rattle.sheet_format.proofs.Framing.{Short, framed-length, framed_first}
-use Rattle.sheet_format.proofs.Tallies.{past, is_complete}
-use Rattle.sheet_format.proofs.Walks.{first_step, walked_on, no_fault, later}
-use Rattle.sheet_format.proofs.Rows.{rows_there}
-use Rattle.sheet_format.proofs.Items.{sum_there}
-use Rattle.sheet_format.proofs.Forward.{size_low, variable_again, begun_reaches}
-use Rattle.sheet_format.proofs.Sheets.{sheet_begun, ended_records, ended_bytes, begun_valid, all_begun, sheet_keeps, begun_summary}
-use Rattle.sheet_format.proofs.Alone.{says, wrong_found}
-use Rattle.sheet_format.proofs.Telling.{Whole, Over, Off, LawOf, law_of}
+use Rattle.sheet_law.proofs.NumberLaws.{two_back, Bytes}
+use Rattle.sheet_law.proofs.Framing.{Short, framed-length, framed_first}
+use Rattle.sheet_law.proofs.Tallies.{past, is_complete}
+use Rattle.sheet_law.proofs.Walks.{first_step, walked_on, no_fault, later}
+use Rattle.sheet_law.proofs.Rows.{rows_there}
+use Rattle.sheet_law.proofs.Items.{sum_there}
+use Rattle.sheet_law.proofs.Forward.{size_low, variable_again, begun_reaches}
+use Rattle.sheet_law.proofs.Sheets.{sheet_begun, ended_records, ended_bytes, begun_valid, all_begun, sheet_keeps, begun_summary}
+use Rattle.sheet_law.proofs.Alone.{says, wrong_found}
+use Rattle.sheet_law.proofs.Telling.{Whole, Over, Off, LawOf, law_of}
 
 -- framed records, split again
 pub split_back : (rs : List Raw) (most : ℕ) → length rs ≤ most → AllByRecursion Short rs → split most (flat_map framed rs) ≡ rs

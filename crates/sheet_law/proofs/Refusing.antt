@@ -12,10 +12,10 @@ use Rattle.sheet_format.specs.Reading.{Shown, shows_end, shown}
 use Rattle.sheet_format.specs.Verdict.{Tally, Step, goes, ends, stops, step}
 use Rattle.sheet_format.specs.Writing.{Entry, heads, has_variable, has_constraint, has_move, ends_here, entry_record, Pen, lies_in, put_step, put}
 use Rattle.sheet_format.specs.Written.{Written, entry_kind, entry_rules, kept_after, Passes, WhyRefused}
-use Rattle.sheet_format.proofs.Held.{goes_held, end_held}
-use Rattle.sheet_format.proofs.Shows.{kind_is}
-use Rattle.sheet_format.proofs.Telling.{the_end}
-use Rattle.sheet_format.proofs.Breaking.{Breaks, OfKind, of_kind, same_shown, goes_on, ends_on}
+use Rattle.sheet_law.proofs.Held.{goes_held, end_held}
+use Rattle.sheet_law.proofs.Shows.{kind_is}
+use Rattle.sheet_law.proofs.Telling.{the_end}
+use Rattle.sheet_law.proofs.Breaking.{Breaks, OfKind, of_kind, same_shown, goes_on, ends_on}
 
 -- what the end shows
 pub end_shows : (place : ℕ) (s : Shown) → shown end_record.kind end_record.body place ≡ Some s → s ≡ shows_end []

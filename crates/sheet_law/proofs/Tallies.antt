@@ -10,7 +10,7 @@ use Rattle.sheet_format.specs.Encoding.{Raw, framed, heading_record}
 use Rattle.sheet_format.specs.Beginnings.{Begun, heading_begun, AllThere, Keeps, begun_of, nothing_begun, unmoved, begun_tally}
 use Rattle.sheet_format.specs.Rules.{ConstraintDue}
 use Rattle.sheet_format.specs.Verdict.{Tally, complete, constraints_due}
-use Rattle.sheet_format.proofs.Framing.{framed-length}
+use Rattle.sheet_law.proofs.Framing.{framed-length}
 
 -- the place after a record
 abbrev pub past : ℕ → Raw → ℕ

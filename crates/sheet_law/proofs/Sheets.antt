@@ -7,8 +7,8 @@ use Rattle.sheet_format.specs.Encoding.{Raw, framed, heading_record, variable_re
 use Rattle.sheet_format.specs.Beginnings.{Begun, heading_begun, records_begun, bytes_begun, AllThere, Keeps, begun_tally, begun_sheet}
 use Rattle.sheet_format.specs.Verdict.{Tally, summary}
 use Rattle.sheet_format.specs.Law.{summary_of}
-use Rattle.sheet_format.proofs.Tallies.{bytes_more, headed}
-use Rattle.sheet_format.proofs.Forward.{reached_is}
+use Rattle.sheet_law.proofs.Tallies.{bytes_more, headed}
+use Rattle.sheet_law.proofs.Forward.{reached_is}
 
 -- the beginning that a sheet is
 abbrev pub sheet_begun : Sheet → Begun

@@ -11,8 +11,8 @@ use Rattle.sheet_format.specs.Encoding.{encode, Valid}
 use Rattle.sheet_format.specs.Decoding.{decode}
 use Rattle.sheet_format.specs.Verdict.{verdict}
 use Rattle.sheet_format.specs.Law.{Law, Encodes}
-use Rattle.sheet_format.proofs.Laws.{law_at}
-use Rattle.sheet_format.specs.Meant.{left_end, right_end, no_constraint, constraint_at, meaning_of, empty_sheet, sheet_in}
+use Rattle.sheet_law.proofs.Laws.{law_at}
+use Rattle.sheet_catalog.specs.Meant.{left_end, right_end, no_constraint, constraint_at, meaning_of, empty_sheet, sheet_in}
 
 -- accepted bytes hold the sheet that they encode
 pub accepted_in : (bytes : List ℕ) (z : Summary) → Ok z ≡ verdict bytes → sheet_in bytes ≡ decode bytes
