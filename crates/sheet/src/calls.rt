@@ -26,24 +26,26 @@ pub enum Call<'a> {
     Abandon,
 }
 
-// one call
-fn make(writer: &mut Writer, buffer: &mut [u8], call: Call<'_>) -> Result<usize, WriteFault>
-    ensures call { Makes writer.old buffer.old (asked call.entry) writer.new buffer.new result }
-    ensures stands { (entries : List Placed) → Stands entries writer.old buffer.old → Stands (entries ++ one_put (asked call.entry) result) writer.new buffer.new }
-{
-    match call {
-        Call::Heading(n) => writer.heading(buffer, n),
-        Call::Variable(variable) => writer.variable(buffer, variable),
-        Call::Sum {
-            left,
-            right,
-            formula,
-        } => writer.sum(buffer, left, right, formula),
-        Call::Table { left, right, rows } => writer.table(buffer, left, right, rows),
-        Call::Add(index) => writer.add(buffer, index),
-        Call::Retract(index) => writer.retract(buffer, index),
-        Call::End => writer.end(buffer),
-        Call::Abandon => writer.abandon(),
+impl Writer {
+    // Makes a call of a list: the one of its kind.
+    pub fn make(&mut self, buffer: &mut [u8], call: Call<'_>) -> Result<usize, WriteFault>
+        ensures call { Makes self.old buffer.old (asked call.entry) self.new buffer.new result }
+        ensures stands { (entries : List Placed) → Stands entries self.old buffer.old → Stands (entries ++ one_put (asked call.entry) result) self.new buffer.new }
+    {
+        match call {
+            Call::Heading(n) => self.heading(buffer, n),
+            Call::Variable(variable) => self.variable(buffer, variable),
+            Call::Sum {
+                left,
+                right,
+                formula,
+            } => self.sum(buffer, left, right, formula),
+            Call::Table { left, right, rows } => self.table(buffer, left, right, rows),
+            Call::Add(index) => self.add(buffer, index),
+            Call::Retract(index) => self.retract(buffer, index),
+            Call::End => self.end(buffer),
+            Call::Abandon => self.abandon(),
+        }
     }
 }
 
@@ -58,7 +60,7 @@ pub fn write(calls: &[Call<'_>], answers: &mut [Result<usize, WriteFault>], buff
     let there = calls.len().min(answers.len());
     let mut writer = Writer::new();
     for (i, call) in calls[..there].iter().enumerate() {
-        answers[i] = make(&mut writer, buffer, *call);
+        answers[i] = writer.make(buffer, *call);
     }
     let _ = writer.abandon();
 }

@@ -15,8 +15,8 @@ use Rattle.sheet_format.specs.Value.{no_variable}
 use Rattle.sheet_format.specs.Verdict.{verdict, walked}
 use Rattle.sheet_catalog.specs.Meant.{empty_sheet, meaning_of, sheet_in}
 use Rattle.sheet_catalog.specs.Placed.{number_of, numbers_of, size_of_house, SizesOf}
-use Rattle.sheet_catalog.proofs.Lawfulness.{accepted_in, refused_in}
-use Rattle.sheet_catalog.proofs.Variables.{VariableThere, variable_there, many_in, numbering, numbers_all, own_numbers, sizes_in}
+use Rattle.sheet_catalog.specs.Lawfulness.{accepted_in, refused_in}
+use Rattle.sheet_catalog.proofs.Placing.{VariableThere, variable_there, many_in, numbering, numbers_all, own_numbers, sizes_in}
 use Rattle.sheet_catalog.specs.Combined.{combined_of}
 use Rattle.sheet_catalog.proofs.Fitting.{good_sizes}
 

@@ -1,6 +1,5 @@
-mod Lawfulness
 mod Read
-mod Variables
+mod Placing
 mod ReadBack
 mod TableRows
 mod Terms

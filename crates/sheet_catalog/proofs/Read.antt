@@ -16,7 +16,7 @@ use Rattle.sheet_law.proofs.Rows.{rows_there}
 use Rattle.sheet_law.proofs.Forward.{size_low}
 use Rattle.sheet_catalog.specs.Meant.{constraint_at, no_constraint}
 use Rattle.sheet_catalog.specs.Begun.{BeginsAt, Begun}
-use Rattle.sheet_catalog.proofs.Lawfulness.{constraint_valid}
+use Rattle.sheet_catalog.specs.Lawfulness.{constraint_valid}
 
 -- the bytes after the constraints
 abbrev pub after_constraints : Sheet → List ℕ

@@ -8,7 +8,7 @@ use Rattle.sheet_format.specs.Encoding.{constraint_record}
 use Rattle.sheet_format.specs.Decoding.{decode}
 use Rattle.sheet_catalog.specs.Meant.{sheet_in, constraint_at}
 use Rattle.sheet_catalog.specs.Begun.{BeginsAt, Begun}
-use Rattle.sheet_catalog.proofs.Lawfulness.{accepted_in, counted_in}
+use Rattle.sheet_catalog.specs.Lawfulness.{accepted_in, counted_in}
 use Rattle.sheet_catalog.proofs.Read.{Stepped, stepped_in, from_constraint, first_place, few_in, begun_more}
 
 pub few_at : (s : Accepted) → s.found.constraints ≤ 96

@@ -1,4 +1,5 @@
 pub mod Meant
+pub mod Lawfulness
 pub mod Begun
 pub mod Placed
 pub mod Viewed

@@ -5,7 +5,7 @@
 ghost use Rattle.std.specs.Prelude.{◌≡◌, ℕ, ◌<◌, ◌≤◌, length, slice_index};
 ghost use Rattle.sheet_catalog.specs.Meant.{meaning_of, sheet_in};
 ghost use Rattle.sheet_catalog.specs.Begun.{Begun};
-ghost use Rattle.sheet_catalog.proofs.Lawfulness.{bytes_lawful};
+ghost use Rattle.sheet_catalog.specs.Lawfulness.{bytes_lawful};
 
 use catalog::Catalog;
 

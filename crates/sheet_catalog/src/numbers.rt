@@ -38,7 +38,7 @@ pub fn numbering_of(sheet: &Accepted<'_>) -> Numbering
 }
 
 // The same of any bytes. For a sheet that the check refuses each entry is its own index.
-#[tactic(auto, using(crate::proofs::Variables::own_numbers))]
+#[tactic(auto, using(crate::proofs::Placing::own_numbers))]
 pub fn numbering(bytes: &[u8]) -> Numbering
     ensures { result.to ≡ numbers_of (sheet_in bytes.now) }
 {

@@ -12,7 +12,7 @@ use sheet::Accepted;
 use std::array;
 
 // the size of the variable whose house number is h
-#[tactic(auto, using(crate::proofs::Known::many, crate::proofs::Variables::house_nowhere))]
+#[tactic(auto, using(crate::proofs::Known::many, crate::proofs::Placing::house_nowhere))]
 fn size_of_house(sheet: &Accepted<'_>, h: usize) -> usize
     ensures { result ≡ size_of_house (decode sheet.now.bytes.now).variables h }
 {

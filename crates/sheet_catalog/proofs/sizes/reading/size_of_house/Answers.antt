@@ -1,6 +1,6 @@
 use Rattle.std.proofs.Common.{◌<◌, length, sym, ◌∙◌, arith}
 use Rattle.sheet_format.specs.Decoding.{decode}
-use Rattle.sheet_catalog.proofs.Variables.{house_here, house_later}
+use Rattle.sheet_catalog.proofs.Placing.{house_here, house_later}
 use Rattle.sheet_catalog.proofs.Known.{many}
 use Rattle.sheet_catalog.proofs.sizes.reading.size_of_house.Goals as goal
 

@@ -19,7 +19,7 @@ use Rattle.sheet_format.specs.Law.{Encodes}
 use Rattle.sheet_law.proofs.NumberLaws.{two_back, number2-drop}
 use Rattle.sheet_catalog.specs.Meant.{empty_sheet, sheet_in}
 use Rattle.sheet_catalog.specs.Placed.{number_of, numbers_of, size_of_house, SizesOf}
-use Rattle.sheet_catalog.proofs.Lawfulness.{accepted_in, refused_in}
+use Rattle.sheet_catalog.specs.Lawfulness.{accepted_in, refused_in}
 
 -- the variable e in the bytes of variables, eight bytes each
 among : (vs : List Variable) (e : ℕ) (rest : List ℕ) → e < length vs
