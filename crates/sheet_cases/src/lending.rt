@@ -18,23 +18,6 @@ struct Hand<'a> {
     answers: Vec<Result<usize, WriteFault>>,
 }
 
-fn make(writer: &mut Writer, buffer: &mut [u8], call: Call<'_>) -> Result<usize, WriteFault> {
-    match call {
-        Call::Heading(n) => writer.heading(buffer, n),
-        Call::Variable(variable) => writer.variable(buffer, variable),
-        Call::Sum {
-            left,
-            right,
-            formula,
-        } => writer.sum(buffer, left, right, formula),
-        Call::Table { left, right, rows } => writer.table(buffer, left, right, rows),
-        Call::Add(index) => writer.add(buffer, index),
-        Call::Retract(index) => writer.retract(buffer, index),
-        Call::End => writer.end(buffer),
-        Call::Abandon => writer.abandon(),
-    }
-}
-
 // the array is as it was, but for what lies between two places
 fn is_kept(before: &[u8], after: &[u8], from: usize, to: usize) -> bool {
     before.get(..from) == after.get(..from) && before.get(to..) == after.get(to..)
@@ -46,7 +29,7 @@ fn call_lent<'a>(writer: &mut Writer, hand: &mut Hand<'a>, call: Call<'a>) -> an
         return Err(anyhow!("more is lent than there is"));
     }
     let before = hand.array.clone()?;
-    let answer = make(writer, &mut hand.array[..hand.lent], call);
+    let answer = writer.make(&mut hand.array[..hand.lent], call);
     let reached = answer.unwrap_or(hand.place);
     if !is_kept(&before, &hand.array, hand.place, reached) {
         return Err(anyhow!("a call altered bytes that are not its own"));
