@@ -38,7 +38,7 @@ use catalog::Catalog;
 use catalog::joined::Joined;
 use catalog::numbering::Numbering;
 use catalog::renumbered::Renumbered;
-use house::HouseCatalog;
+use catalog::house::HouseCatalog;
 use largest::largest;
 use listed::listed;
 use outcome::{Outcome, print_line};

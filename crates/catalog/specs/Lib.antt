@@ -6,3 +6,5 @@ pub mod Renumbered
 pub mod Number
 pub mod Causes
 pub mod Text
+pub mod House
+pub mod Table

@@ -7,6 +7,7 @@ ghost use Rattle.catalog.specs.Constraints.{arcs_of};
 ghost use Rattle.catalog.specs.Meaning.{Meaning, Lawful, GoodEnds, ends_of, allowed};
 
 pub mod checks;
+pub mod house;
 pub mod joined;
 pub mod numbering;
 pub mod refusal;

@@ -3,8 +3,8 @@ use Rattle.std.proofs.Common.{◌≡◌, ℕ, zero, suc, ◌<◌, cond, [], ◌�
 use Rattle.catalog.specs.Joined.{joined}
 use Rattle.catalog.specs.Meaning.{Meaning}
 use Rattle.catalog.specs.Renumbered.{renumbered}
-use Rattle.house.specs.House.{house}
-use Rattle.house.specs.Table.{all_below}
+use Rattle.catalog.specs.House.{house}
+use Rattle.catalog.specs.Table.{all_below}
 use Rattle.sheet_format.specs.Value.{Sheet, sum, add, retract, size_at, house_at}
 use Rattle.sheet_format.specs.Decoding.{decode, split}
 use Rattle.sheet_format.specs.Verdict.{verdict, walked}

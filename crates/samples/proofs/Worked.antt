@@ -2,7 +2,7 @@
 use Rattle.std.proofs.Common.{◌≡◌, ℕ, ◌&&◌, ltb, leb, [], ◌∷◌, refl, ◌∙◌, arith, lit<}
 use Rattle.std.proofs.lemmas.Bool.Decides.{nat_tests}
 use Rattle.bits.proofs.Bitwise.{has_mask}
-use Rattle.house.specs.Table.{all_below}
+use Rattle.catalog.specs.Table.{all_below}
 use Rattle.samples.specs.Small.{ordered, crossed}
 use Rattle.samples.specs.Samples.{Samples}
 use Rattle.samples.proofs.Chains.{accepted, sizes, first, both, second}

@@ -3,7 +3,7 @@ use Rattle.std.specs.Prelude.{◌≡◌, ℕ, ◌^◌, ◌<◌, ◌&&◌, [], �
 use Rattle.arcs.specs.WipedOut.{WipedOut}
 use Rattle.bits.specs.Bits.{has_bit}
 use Rattle.catalog.specs.Meaning.{Meaning, allowed}
-use Rattle.house.specs.House.{house}
+use Rattle.catalog.specs.House.{house}
 use Rattle.samples.specs.Small.{ordered, crossed}
 use Rattle.sheet_format.specs.Verdict.{verdict}
 use Rattle.sheet_catalog.specs.Meant.{sheet_in}

@@ -2,3 +2,4 @@ pub mod Accepting
 pub mod Keeping
 pub mod Sweeping
 pub mod Translating
+mod Counted

@@ -4,3 +4,4 @@ pub mod Refused
 pub mod Named
 pub mod Filled
 pub mod Written
+pub mod Counts

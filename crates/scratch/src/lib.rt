@@ -1,4 +1,4 @@
-// The largest arc-consistent domains from scratch.
+// The largest arc-consistent domains from scratch; and how many pairs a constraint allows, and which constraints lie between the first variables.
 #![tactic(auto)]
 
 ghost use Rattle.std.specs.Prelude.{◌≡◌, length, None, MatchResult};
@@ -14,9 +14,12 @@ use request::Request;
 
 mod accept;
 mod arc;
+mod counting;
 mod fill;
 mod request;
 mod settle;
+
+pub use counting::{inside, pairs};
 
 impl<C: Catalog> Request<'_, C> {
     // The work of a call that is not refused.

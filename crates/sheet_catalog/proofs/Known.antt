@@ -3,7 +3,7 @@ use Rattle.std.proofs.Common.{◌≡◌, ℕ, ◌+◌, ◌*◌, ◌<◌, ◌≤�
 use Rattle.catalog.specs.Joined.{joined}
 use Rattle.catalog.specs.Numbered.{IsNumbering, entry}
 use Rattle.catalog.specs.Renumbered.{renumbered}
-use Rattle.house.specs.House.{house}
+use Rattle.catalog.specs.House.{house}
 use Rattle.catalog.specs.Causes.{sizes_refusal}
 use Rattle.sheet.specs.declared.accepted.Accepted.{Accepted}
 use Rattle.sheet.proofs.Encoded.{encoded}

@@ -3,7 +3,7 @@ use Rattle.std.specs.Prelude.{ℕ, List}
 use Rattle.catalog.specs.Meaning.{Meaning}
 use Rattle.catalog.specs.Joined.{joined}
 use Rattle.catalog.specs.Renumbered.{renumbered}
-use Rattle.house.specs.House.{house}
+use Rattle.catalog.specs.House.{house}
 use Rattle.sheet_catalog.specs.Meant.{meaning_of, sheet_in}
 use Rattle.sheet_catalog.specs.Placed.{numbers_of}
 

@@ -2,7 +2,7 @@
 ghost use Rattle.std.specs.Prelude.{◌≡◌};
 ghost use Rattle.catalog.specs.Joined.{joined};
 ghost use Rattle.catalog.specs.Renumbered.{renumbered};
-ghost use Rattle.house.specs.House.{house};
+ghost use Rattle.catalog.specs.House.{house};
 ghost use Rattle.sheet_catalog.specs.Meant.{meaning_of, sheet_in};
 ghost use Rattle.sheet_catalog.specs.Combined.{combined_of};
 
@@ -11,7 +11,7 @@ use crate::numbers::numbering_of;
 use catalog::joined::Joined;
 use catalog::numbering::Numbering;
 use catalog::renumbered::Renumbered;
-use house::HouseCatalog;
+use catalog::house::HouseCatalog;
 use sheet::Accepted;
 
 // The constraints of the sheet with its variables renumbered, then those of the house.

@@ -3,13 +3,10 @@
 // then the largest domains with all the constraints in that are not outside. A refused sheet prints its fault only.
 #![tactic(auto)]
 
-mod counting;
-
 use catalog::Catalog;
 use catalog::checks::check_constraint;
-use counting::{inside, pairs};
 use runner::domain_line;
-use scratch::largest_domains;
+use scratch::{inside, largest_domains, pairs};
 use sheet::Accepted;
 use sheet_catalog::combined_of;
 use sheet_catalog::sizes::Sizes;
@@ -20,7 +17,7 @@ use std::io::Read;
 fn print_constraints<C: Catalog>(rt: &HostRuntime, catalog: &C, sizes: &[usize]) -> io::Result<()> {
     for p in 0..catalog.count() {
         if let Ok((a, b)) = check_constraint(catalog, sizes.len(), p) {
-            let allowed = pairs(catalog, p, sizes[a].min(64), sizes[b].min(64));
+            let allowed = pairs(catalog, p, sizes[a], sizes[b]);
             println!(rt; "constraint {p} ends {a} {b} pairs {allowed}")?;
         } else if let Some((a, b)) = catalog.ends(p) {
             println!(rt; "constraint {p} ends {a} {b} outside")?;

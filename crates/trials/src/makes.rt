@@ -2,7 +2,7 @@
 use catalog::joined::Joined;
 use catalog::renumbered::Renumbered;
 use drawing::{Draws, Shape};
-use house::HouseCatalog;
+use catalog::house::HouseCatalog;
 use judging::met::Met;
 use judging::trouble::Trouble;
 use random::density::Density;

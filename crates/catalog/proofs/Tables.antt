@@ -3,8 +3,8 @@ use Rattle.std.proofs.Common.{◌≡◌, ℕ, zero, suc, ◌^◌, ◌<◌, Bool,
 use Rattle.std.proofs.lemmas.Bool.{and_parts, lt-ltb, le-ltb, cases_lt, cases_eq}
 use Rattle.bits.specs.Bits.{has_bit}
 use Rattle.bits.proofs.Bitwise.{bit_past}
-use Rattle.house.specs.House.{house}
-use Rattle.house.specs.Table.{agrees, row_agrees, all_below, same}
+use Rattle.catalog.specs.House.{house}
+use Rattle.catalog.specs.Table.{agrees, row_agrees, all_below, same}
 
 pub at_each : (f : ℕ → Bool) (n k : ℕ) → all_below f n ≡ true → k < n → f k ≡ true
 unfolding all_below

@@ -1,7 +1,7 @@
 // Counting the pairs that a constraint allows, and naming the constraints between given variables.
-ghost use Rattle.std.specs.Prelude.{◌≡◌, ℕ, ◌*◌, ◌≤◌, IfOk};
+ghost use Rattle.std.specs.Prelude.{◌≡◌, ℕ, ◌*◌, ◌≤◌, min, IfOk};
 ghost use Rattle.scratch.specs.Named.{named};
-ghost use Rattle.sheetpile.specs.Counts.{beside_count, pair_count, is_inside};
+ghost use Rattle.scratch.specs.Counts.{beside_count, pair_count, is_inside};
 
 use catalog::Catalog;
 use catalog::checks::check_constraint;
@@ -15,9 +15,9 @@ fn beside<C: Catalog>(catalog: &C, p: usize, x: usize, size: usize) -> usize
     (0..size).filter(|y| catalog.allows(p, x, *y)).count()
 }
 
-// How many pairs of values below these sizes the constraint p allows.
+// how many pairs of values below these sizes the constraint p allows
 #[tactic(auto, using(crate::proofs::Counted::pairs_none, crate::proofs::Counted::pairs_more))]
-pub fn pairs<C: Catalog>(catalog: &C, p: usize, left_size: usize, right_size: usize) -> usize
+fn pairs_below<C: Catalog>(catalog: &C, p: usize, left_size: usize, right_size: usize) -> usize
     requires left { left_size ≤ 64 }
     requires right { right_size ≤ 64 }
     ensures { result ≡ pair_count (C.Catalog.meaning catalog.now) p right_size left_size }
@@ -28,6 +28,13 @@ pub fn pairs<C: Catalog>(catalog: &C, p: usize, left_size: usize, right_size: us
         n += beside(catalog, p, x, right_size);
     }
     n
+}
+
+// How many pairs of values below these sizes the constraint p allows; there are 64 values at most.
+pub fn pairs<C: Catalog>(catalog: &C, p: usize, left_size: usize, right_size: usize) -> usize
+    ensures { result ≡ pair_count (C.Catalog.meaning catalog.now) p (min right_size 64) (min left_size 64) }
+{
+    pairs_below(catalog, p, left_size.min(64), right_size.min(64))
 }
 
 // Is p a constraint whose ends both lie below n?

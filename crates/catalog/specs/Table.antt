@@ -1,7 +1,7 @@
 -- The house catalog's table, and the test that it is the formulas'.
 use Rattle.std.specs.Prelude.{ℕ, zero, suc, Bool, true, false, not, ◌&&◌, List, [], slice_index, slice_index_or}
 use Rattle.bits.specs.Bits.{has_bit}
-use Rattle.house.specs.House.{house}
+use Rattle.catalog.specs.House.{house}
 
 -- the test f passes at each number below n
 unfoldable pub all_below : (ℕ → Bool) → ℕ → Bool

@@ -1,12 +1,10 @@
 // The house catalog: four constraints of the house's own, held as one table.
-#![tactic(auto)]
-
 ghost use Rattle.std.specs.Prelude.{◌≡◌, ℕ, ◌<◌, true, ◌&&◌, length, nat_lt};
 ghost use Rattle.bits.specs.Bits.{has_bit};
-ghost use Rattle.house.specs.House.{house, house_lawful};
-ghost use Rattle.house.specs.Table.{agrees};
+ghost use Rattle.catalog.specs.House.{house, house_lawful};
+ghost use Rattle.catalog.specs.Table.{agrees};
 
-use catalog::Catalog;
+use crate::Catalog;
 
 // 64 rows for each constraint, one for each value of its first end: bit y is set where y, of the second end, is allowed.
 const ROWS: [[u64; 64]; 4] = [

@@ -5,7 +5,7 @@ use Rattle.std.proofs.lemmas.Bool.Decides.{nat_tests}
 use Rattle.std.proofs.lemmas.Bool.{true≢false, cases_eq, ne_eqb}
 use Rattle.catalog.specs.Meaning.{Meaning}
 use Rattle.scratch.specs.Named.{named}
-use Rattle.sheetpile.specs.Counts.{beside_count, pair_count, is_inside}
+use Rattle.scratch.specs.Counts.{beside_count, pair_count, is_inside}
 
 pub pairs_none : (m : Meaning) (p size : ℕ) → pair_count m p size 0 ≡ 0
 unfolding pair_count

@@ -1,7 +1,7 @@
 use Rattle.std.proofs.Common.{◌≡◌, ℕ, ◌&&◌, ltb, vec_items}
 use Rattle.scratch.specs.Named.{named}
-use Rattle.sheetpile.specs.Counts.{is_inside}
-use Rattle.sheetpile.proofs.counting.inside.Given as goal
+use Rattle.scratch.specs.Counts.{is_inside}
+use Rattle.scratch.proofs.counting.inside.Given as goal
 
 -- those so far
 abbrev pub invariant-loop-p : goal.invariant-loop-p

@@ -1,8 +1,8 @@
 use Rattle.std.proofs.Common.{vec_items, ap, ◌∙◌}
 use Rattle.scratch.specs.Named.{named}
-use Rattle.sheetpile.proofs.Counted.{inside_yes, inside_no}
-use Rattle.sheetpile.proofs.counting.inside.Goals as goal
-use Rattle.sheetpile.proofs.counting.inside.Goals.{then-lies_inside+in_ok-push, else-lies_inside}
+use Rattle.scratch.proofs.Counted.{inside_yes, inside_no}
+use Rattle.scratch.proofs.counting.inside.Goals as goal
+use Rattle.scratch.proofs.counting.inside.Goals.{then-lies_inside+in_ok-push, else-lies_inside}
 
 pub loop-p-preserved : goal.loop-p-preserved
 loop-p-preserved g c =

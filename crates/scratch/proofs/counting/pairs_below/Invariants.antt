@@ -1,6 +1,6 @@
 use Rattle.std.proofs.Common.{◌≡◌, ◌*◌, ◌≤◌}
-use Rattle.sheetpile.specs.Counts.{pair_count}
-use Rattle.sheetpile.proofs.counting.pairs.Given as goal
+use Rattle.scratch.specs.Counts.{pair_count}
+use Rattle.scratch.proofs.counting.pairs_below.Given as goal
 
 -- so many so far
 abbrev pub invariant-loop-x : goal.invariant-loop-x
