@@ -32,16 +32,16 @@ pub enum Record<'a> {
 fn table_record(body: &[u8], place: u32) -> Record<'_>
     ensures { shown_by result ≡ shown_table body.now place }
 {
-    match body {
-        [left, right, bytes @ ..] => Record::Table {
-            left: *left,
-            right: *right,
-            rows: Part {
-                bytes,
-                place: place as usize + 6,
-            },
+    if body.len() < 2 {
+        return Record::ShortTable(body);
+    }
+    Record::Table {
+        left: body[0],
+        right: body[1],
+        rows: Part {
+            bytes: &body[2..],
+            place: place as usize + 6,
         },
-        _ => Record::ShortTable(body),
     }
 }
 
