@@ -1,6 +1,5 @@
 -- The rows of a table as chunks of eight bytes, and what a shift leaves of a row.
-use Rattle.std.proofs.Common.{◌≡◌, ℕ, zero, suc, ◌+◌, ◌*◌, ◌<◌, ◌≤◌, ◌/◌, ◌^◌, true, ◌&&◌, eqb, ltb, List, [], ◌∷◌, ◌++◌, length, take, drop, refl, sym, ap, ◌∙◌, ⊎_elim, le_trans, w64, get_or, lit<, arith, pow_pos, pow_mono}
-use Rattle.std.specs.Int.{from_le_bytes}
+use Rattle.std.proofs.Common.{◌≡◌, ℕ, zero, suc, ◌+◌, ◌*◌, ◌<◌, ◌≤◌, ◌/◌, ◌^◌, true, ◌&&◌, eqb, ltb, List, [], ◌∷◌, ◌++◌, length, take, drop, refl, sym, ap, ◌∙◌, ⊎_elim, le_trans, get_or, lit<, arith, pow_pos, pow_mono}
 use Rattle.std.specs.List.{list_all}
 use Rattle.std.specs.Simd.{first_chunks}
 use Rattle.std.proofs.lemmas.Bool.{lt-ltb, le-ltb, eq-eqb, ne_eqb, cases_lt}
@@ -12,7 +11,7 @@ use Rattle.sheet_format.specs.Decoding.{rows_in}
 use Rattle.sheet_law.proofs.NumberLaws.{number8-drop}
 
 -- the row that the first eight bytes are
-pub first_row : (xs : List ℕ) → from_le_bytes w64 (take 8 xs) ≡ number8 xs 0
+pub first_row : (xs : List ℕ) → number8 (take 8 xs) 0 ≡ number8 xs 0
 first_row xs =
     let at : (i : ℕ) → i < 8 → get_or (take 8 xs) i 0 ≡ get_or xs i 0 = λ i h. get_or-take 8 xs i 0 h in
     let a = at 0 (lit< tt) in
@@ -25,18 +24,18 @@ first_row xs =
     let h = at 7 (lit< tt) in
     omega arith
 
-rows_same : (size count : ℕ) (xs : List ℕ) → list_all (λ row. ltb (from_le_bytes w64 row) (2 ^ size)) (first_chunks 8 count xs) ≡ rows_good count size xs
+rows_same : (size count : ℕ) (xs : List ℕ) → list_all (λ row. ltb (number8 row 0) (2 ^ size)) (first_chunks 8 count xs) ≡ rows_good count size xs
 unfolding rows_good
 rows_same size zero xs = refl
 rows_same size (suc count) xs =
-    ap (λ n. ltb n (2 ^ size) && list_all (λ row. ltb (from_le_bytes w64 row) (2 ^ size)) (first_chunks 8 count (drop 8 xs))) (first_row xs)
+    ap (λ n. ltb n (2 ^ size) && list_all (λ row. ltb (number8 row 0) (2 ^ size)) (first_chunks 8 count (drop 8 xs))) (first_row xs)
     ∙ ap (λ b. ltb (number8 xs 0) (2 ^ size) && b) (rows_same size count (drop 8 xs))
 
 pub rows_all : (size count : ℕ) (xs : List ℕ) → length xs ≡ 8 * count
-    → list_all (λ row. ltb (from_le_bytes w64 row) (2 ^ size)) (first_chunks 8 (length xs / 8) xs) ≡ rows_good count size xs
+    → list_all (λ row. ltb (number8 row 0) (2 ^ size)) (first_chunks 8 (length xs / 8) xs) ≡ rows_good count size xs
 rows_all size count xs e =
     let many : length xs / 8 ≡ count = omega arith in
-    ap (λ n. list_all (λ row. ltb (from_le_bytes w64 row) (2 ^ size)) (first_chunks 8 n xs)) many ∙ rows_same size count xs
+    ap (λ n. list_all (λ row. ltb (number8 row 0) (2 ^ size)) (first_chunks 8 n xs)) many ∙ rows_same size count xs
 
 -- a shift that leaves nothing
 pub fits_shift : (row size : ℕ) → eqb (row / 2 ^ size) 0 ≡ ltb row (2 ^ size)

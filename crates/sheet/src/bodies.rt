@@ -1,11 +1,11 @@
 // What a body may say.
 ghost use Rattle.std.specs.Prelude.{◌≡◌, ◌==◌, ◌*◌, ◌/◌, ◌^◌, length, nat_lt};
-ghost use Rattle.std.specs.Int.{w64, from_le_bytes};
 ghost use Rattle.std.specs.List.{list_any, list_all};
 ghost use Rattle.std.specs.Simd.{first_chunks};
+ghost use Rattle.sheet_format.specs.Numbers.{number8};
 ghost use Rattle.sheet_format.specs.Verdict.{ends_good};
 
-use sheet_format::Variable;
+use sheet_format::{Variable, row};
 
 // an earlier variable has this house number
 pub(crate) fn house_used(variables: &[Variable], house: u16) -> bool
@@ -24,11 +24,10 @@ fn row_fits(row: u64, size: u16) -> bool
 
 // no row, of eight bytes each, has a bit at or above the size
 pub(crate) fn rows_good(rows: &[u8], size: u16) -> bool
-    ensures { result ≡ list_all (λ row. nat_lt (from_le_bytes w64 row) (2 ^ size)) (first_chunks 8 (length rows.now / 8) rows.now) }
+    ensures { result ≡ list_all (λ bytes. nat_lt (number8 bytes 0) (2 ^ size)) (first_chunks 8 (length rows.now / 8) rows.now) }
 {
     let (rows, _) = rows.as_chunks::<8>();
-    rows.iter()
-        .all(|row| row_fits(u64::from_le_bytes(*row), size))
+    rows.iter().all(|bytes| row_fits(row(bytes, 0), size))
 }
 
 // The ends of a constraint are two different variables out of n. They come apart, as two bytes of a sum's body and as two fields of the public
