@@ -35,10 +35,10 @@ mod tables;
 mod words;
 
 use catalog::Catalog;
+use catalog::house::HouseCatalog;
 use catalog::joined::Joined;
 use catalog::numbering::Numbering;
 use catalog::renumbered::Renumbered;
-use catalog::house::HouseCatalog;
 use largest::largest;
 use listed::listed;
 use outcome::{Outcome, print_line};

@@ -1,5 +1,6 @@
-// Catalogs of constraints: what a catalog is, two joined into one, and one with its variables renumbered; and why calls that name
-// variables, values and constraints are refused.
+// Catalogs of constraints: what a catalog is, two joined into one, one with its variables renumbered, and the house's; the rows of a constraint and
+// the wiped-out variable of a list of domains (`supports`); and why calls that name variables, values and constraints are refused, with the tests of it
+// that several calls make (`checks`).
 #![tactic(auto)]
 
 ghost use Rattle.std.specs.Prelude.{◌≡◌, ◌≤◌};

@@ -27,7 +27,7 @@ impl Random {
     }
 
     // The next number.
-    pub fn draw(&mut self) -> u64
+    fn draw(&mut self) -> u64
         ensures state { self.new.state ≡ shifted self.old.state }
         ensures value { result ≡ number_at self.old.state }
     {

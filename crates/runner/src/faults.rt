@@ -96,6 +96,6 @@ impl From<AllocError> for RunFault {
     ghost from_gives = { λ _ y. y ≡ NoMemory };
 
     fn from(_e: AllocError) -> RunFault {
-        RunFault::Memory
+        Self::Memory
     }
 }

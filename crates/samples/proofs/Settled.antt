@@ -8,7 +8,7 @@ use Rattle.arcs.specs.Family.{Family, Inside, Support, Consistent, Largest, with
 use Rattle.catalog.specs.Meaning.{Meaning}
 use Rattle.catalog.specs.Constraints.{arcs_of}
 use Rattle.catalog.specs.Table.{all_below}
-use Rattle.house.proofs.Tables.{at_each}
+use Rattle.catalog.proofs.Tables.{at_each}
 use Rattle.scratch.specs.Named.{named}
 use Rattle.samples.specs.Sets.{among, sets_of, LargestUnder}
 

@@ -16,7 +16,7 @@ use Rattle.sheet_format.specs.Encoding.{Raw, framed}
 use Rattle.sheet_format.specs.Beginnings.{Begun, records_begun, bytes_begun, Keeps, begun_tally, nothing_begun}
 use Rattle.sheet_format.specs.Reading.{Shown, shown, Reading, taken, broken, reading}
 use Rattle.sheet_format.specs.Verdict.{Tally, nothing_yet, Step, goes, ends, stops, step, summary, Verdict, format_fault, after_step, after_reading, walked}
-use Rattle.sheet_format.specs.Writing.{entry_record, Pen, new_pen, lies_in, put_step, put, laid, Puts, PutsRecord, PutsEntry}
+use Rattle.sheet_format.specs.Writing.{entry_record, WriterState, new_writer, lies_in, put_step, put, laid, Puts, PutsRecord, PutsEntry}
 use Rattle.sheet_law.proofs.NumberLaws.{Bytes}
 use Rattle.sheet_law.proofs.Framing.{Short, took, Framed, framed_again, framed_first}
 use Rattle.sheet_law.proofs.Held.{GoesHeld, goes_held, end_held}
@@ -35,7 +35,7 @@ use Rattle.sheet.proofs.Entries.{same_shown}
 use Rattle.sheet.proofs.Laying.{laid_twice}
 
 -- A writer has put the records of a sheet into a buffer, which was `before`, as far as the bytes that are left; those are accepted after them.
-pub record Copying (sheet before : List ℕ) (p : Pen) (left buffer : List ℕ) : Type 0 where
+pub record Copying (sheet before : List ℕ) (p : WriterState) (left buffer : List ℕ) : Type 0 where
   pub is_open : p.is_open ≡ true
   pub most : ℕ
   pub records : ℕ
@@ -129,15 +129,15 @@ not_lies size after e = by (ltb size after) refl (ltb 65535 after) refl e
     by false f true g h = inr (ltb-true 65535 after g)
     by false f false g h = absurd (let z : ◌≡◌ {A = ℕ} 0 1 = cc in omega arith)
 
-short : (t : Bool) (r : Pen) (f : WriteFault) → ◌≡◌ {A = Result Pen WriteFault} (cond t (Ok r) (Err ShortBuffer)) (Err f) → (t ≡ false) × (f ≡ ShortBuffer)
+short : (t : Bool) (r : WriterState) (f : WriteFault) → ◌≡◌ {A = Result WriterState WriteFault} (cond t (Ok r) (Err ShortBuffer)) (Err f) → (t ≡ false) × (f ≡ ShortBuffer)
 short true r f e = absurd (let z : ◌≡◌ {A = ℕ} 0 1 = cc in omega arith)
 short false r f e = (refl, cc)
 
-shut : (t : Bool) (r : Result Pen WriteFault) (f : WriteFault) → t ≡ true → cond t r (Err Closed) ≡ Err f → r ≡ Err f
+shut : (t : Bool) (r : Result WriterState WriteFault) (f : WriteFault) → t ≡ true → cond t r (Err Closed) ≡ Err f → r ≡ Err f
 shut true r f e h = h
 shut false r f e h = absurd (let z : ◌≡◌ {A = ℕ} 0 1 = cc in omega arith)
 
-module _ (sheet before : List ℕ) (p : Pen) (left buffer : List ℕ) (c : Copying sheet before p left buffer) (n : Next left p.place c.records p.tally c.found) where
+module _ (sheet before : List ℕ) (p : WriterState) (left buffer : List ℕ) (c : Copying sheet before p left buffer) (n : Next left p.place c.records p.tally c.found) where
   same_bytes : sheet ≡ (bytes_begun c.begun ++ framed n.raw) ++ n.rest
   same_bytes = c.same ∙ ap (λ ys. bytes_begun c.begun ++ ys) n.same ∙ sym (append_assoc (bytes_begun c.begun) (framed n.raw) n.rest)
 
@@ -169,7 +169,7 @@ module _ (sheet before : List ℕ) (p : Pen) (left buffer : List ℕ) (c : Copyi
   rest_bytes : Bytes n.rest
   rest_bytes = subst Bytes (rest_is left p.place c.records p.tally c.found n) (All-drop (λ x. x < 256) (4 + length n.raw.body) left c.bytes)
 
-  goes_on : (h : Tally) (q : Pen) (ys : List ℕ) → step p.tally n.shows (p.place + (4 + length n.raw.body)) ≡ goes h → q ≡ record { tally = h; place = p.place + (4 + length n.raw.body); is_open = true }
+  goes_on : (h : Tally) (q : WriterState) (ys : List ℕ) → step p.tally n.shows (p.place + (4 + length n.raw.body)) ≡ goes h → q ≡ record { tally = h; place = p.place + (4 + length n.raw.body); is_open = true }
       → lies_in (length buffer) (p.place + (4 + length n.raw.body) + 4) ≡ true → ys ≡ laid p.place (framed n.raw) buffer → Copying sheet before q n.rest ys
   goes_on h q ys e made fits put =
       let b : Begun = c.begun in
@@ -255,7 +255,7 @@ module _ (sheet before : List ℕ) (p : Pen) (left buffer : List ℕ) (c : Copyi
       by (stops cause) s r =
           absurd (never _ c.found (sym (ap (after_step (walked n.most) p.tally p.place c.records n.rest (p.place + (4 + length n.raw.body))) s) ∙ n.on))
 
-next_of : (sheet before : List ℕ) (p : Pen) (left buffer : List ℕ) (c : Copying sheet before p left buffer) → Next left p.place c.records p.tally c.found
+next_of : (sheet before : List ℕ) (p : WriterState) (left buffer : List ℕ) (c : Copying sheet before p left buffer) → Next left p.place c.records p.tally c.found
 next_of sheet before p left buffer c = next_record c.most p.place c.records left p.tally c.found c.bytes c.onward
 
 same_taken : (s t : Shown) (xs ys : List ℕ) → taken s xs ≡ taken t ys → (s ≡ t) × (xs ≡ ys)
@@ -265,21 +265,21 @@ not_broken : (cause : RecordCause) (s : Shown) (xs : List ℕ) → taken s xs �
 not_broken cause s xs e = let z : ◌≡◌ {A = ℕ} 0 1 = cc in omega arith
 
 -- a record is there to be read
-pub readable : (sheet before : List ℕ) (p : Pen) (left buffer : List ℕ) → Copying sheet before p left buffer → (r : Result (Record × Part) (Fault RecordCause)) → Answers left p.place r → IsOk r
+pub readable : (sheet before : List ℕ) (p : WriterState) (left buffer : List ℕ) → Copying sheet before p left buffer → (r : Result (Record × Part) (Fault RecordCause)) → Answers left p.place r → IsOk r
 readable sheet before p left buffer c (Ok found) a = refl
 readable sheet before p left buffer c (Err fault) a = let n = next_of sheet before p left buffer c in absurd (not_broken fault.cause n.shows n.rest (sym n.reads ∙ a.0))
 
-pub read_off : (p : Pen) (left : Part) (r : Result (Record × Part) (Fault RecordCause)) (found : Record × Part) → left.place ≡ p.place → Answers left.bytes.now left.place r → r ≡ Ok found
+pub read_off : (p : WriterState) (left : Part) (r : Result (Record × Part) (Fault RecordCause)) (found : Record × Part) → left.place ≡ p.place → Answers left.bytes.now left.place r → r ≡ Ok found
     → TookFrom left.bytes.now p.place found.0 found.1
 read_off p left r found at a e = subst (λ n. TookFrom left.bytes.now n found.0 found.1) at (subst (Answers left.bytes.now left.place) e a)
 
-pub place_low : (sheet before : List ℕ) (p : Pen) (left buffer : List ℕ) → Copying sheet before p left buffer → p.place ≤ 65535
+pub place_low : (sheet before : List ℕ) (p : WriterState) (left buffer : List ℕ) → Copying sheet before p left buffer → p.place ≤ 65535
 place_low sheet before p left buffer c =
     let all = ap length c.same ∙ length-append (bytes_begun c.begun) left in
     omega (arith, c.short, c.reached)
 
 -- a record that was read off the bytes that are left
-module _ (sheet before : List ℕ) (p : Pen) (left buffer : List ℕ) (c : Copying sheet before p left buffer) (s : Shown) (rest : List ℕ) (reads : reading left p.place ≡ taken s rest) where
+module _ (sheet before : List ℕ) (p : WriterState) (left buffer : List ℕ) (c : Copying sheet before p left buffer) (s : Shown) (rest : List ℕ) (reads : reading left p.place ≡ taken s rest) where
   n : Next left p.place c.records p.tally c.found
   n = next_of sheet before p left buffer c
 
@@ -306,23 +306,23 @@ module _ (sheet before : List ℕ) (p : Pen) (left buffer : List ℕ) (c : Copyi
   whole_length : (r : Raw) → length (framed r) ≡ 4 + length r.body
   whole_length r = omega arith
 
-  put_so : (q : Pen) (ys : List ℕ) (a : Result ℕ WriteFault) → PutsEntry p buffer (entry_in s) q ys a → Puts p buffer n.shows (framed n.raw) q ys a
+  put_so : (q : WriterState) (ys : List ℕ) (a : Result ℕ WriteFault) → PutsEntry p buffer (entry_in s) q ys a → Puts p buffer n.shows (framed n.raw) q ys a
   put_so q ys a puts = by (subst (λ r. PutsRecord p buffer r q ys a) (ap (λ t. entry_record (entry_in t)) is_next.0 ∙ sound.again) puts)
     where
       by : PutsRecord p buffer n.raw q ys a → Puts p buffer n.shows (framed n.raw) q ys a
       by (t, shows, so) = subst (λ u. Puts p buffer u (framed n.raw) q ys a) (same_shown t n.shows (sym shows ∙ n.is_shown)) so
 
-  pub copied_err : (q : Pen) (ys : List ℕ) (f : WriteFault) → PutsEntry p buffer (entry_in s) q ys (Err f) → Copied sheet before ys (Err f)
+  pub copied_err : (q : WriterState) (ys : List ℕ) (f : WriteFault) → PutsEntry p buffer (entry_in s) q ys (Err f) → Copied sheet before ys (Err f)
   copied_err q ys f puts =
       let so = put_so q ys (Err f) puts in
       refused sheet before p left buffer c n f ys (subst (λ m. put p (length buffer) n.shows m ≡ Err f) (whole_length n.raw) so.0) so.2
 
   -- what is left then is nothing, or the rest of the sheet is still to be put
-  abbrev Onward : Pen → List ℕ → ℕ → List ℕ → Type 0
+  abbrev Onward : WriterState → List ℕ → ℕ → List ℕ → Type 0
   Onward q ys place rs =
       (length rs ≡ 0 → Copied sheet before ys (Ok place)) × (1 ≤ length rs → Copying sheet before q rs ys × (q.place ≡ p.place + (length left - length rs)))
 
-  pub copied_ok : (q : Pen) (ys : List ℕ) (place : ℕ) → PutsEntry p buffer (entry_in s) q ys (Ok place) → Onward q ys place rest
+  pub copied_ok : (q : WriterState) (ys : List ℕ) (place : ℕ) → PutsEntry p buffer (entry_in s) q ys (Ok place) → Onward q ys place rest
   copied_ok q ys place puts = subst (Onward q ys place) (sym is_next.1) (by (put_is p (length buffer) n.shows (4 + length n.raw.body) q fits))
     where
       so : Puts p buffer n.shows (framed n.raw) q ys (Ok place)
@@ -346,10 +346,10 @@ module _ (sheet before : List ℕ) (p : Pen) (left buffer : List ℕ) (c : Copyi
           (λ _. e.1, λ some. absurd (omega arith))
 
 -- nothing is put yet
-pub start : (xs before : List ℕ) → IsAccepted xs → Bytes xs → Copying xs before new_pen xs before
+pub start : (xs before : List ℕ) → IsAccepted xs → Bytes xs → Copying xs before new_writer xs before
 start xs before a b = by (ltb 65535 (length xs)) refl a.is
   where
-    by : (t : Bool) → ltb 65535 (length xs) ≡ t → cond t (format_fault TooLong 65535 0) (walked (suc (length xs)) xs 0 0 nothing_yet) ≡ Ok a.found → Copying xs before new_pen xs before
+    by : (t : Bool) → ltb 65535 (length xs) ≡ t → cond t (format_fault TooLong 65535 0) (walked (suc (length xs)) xs 0 0 nothing_yet) ≡ Ok a.found → Copying xs before new_writer xs before
     by true e f = absurd (never _ a.found f)
     by false e f =
         record {

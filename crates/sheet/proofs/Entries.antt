@@ -5,9 +5,9 @@ use Rattle.sheet_format.specs.declared.kinds.Kind.TheVariants.{Heading, Variable
 use Rattle.sheet_format.specs.declared.writing.WriteFault.{WriteFault}
 use Rattle.sheet_format.specs.Kinds.{kind_number}
 use Rattle.sheet_format.specs.Reading.{Shown, shown}
-use Rattle.sheet_format.specs.Writing.{Entry, entry_record, Pen, PutsRecord, PutsEntry}
+use Rattle.sheet_format.specs.Writing.{Entry, entry_record, WriterState, PutsRecord, PutsEntry}
 
-pub put_entry : (e : Entry) (body : List ℕ) (p : Pen) (xs : List ℕ) (q : Pen) (ys : List ℕ) (r : Result ℕ WriteFault) → body ≡ (entry_record e).body
+pub put_entry : (e : Entry) (body : List ℕ) (p : WriterState) (xs : List ℕ) (q : WriterState) (ys : List ℕ) (r : Result ℕ WriteFault) → body ≡ (entry_record e).body
     → PutsRecord p xs (record { kind = (entry_record e).kind; body = body }) q ys r → PutsEntry p xs e q ys r
 put_entry e body p xs q ys r same puts = subst (λ b. PutsRecord p xs (record { kind = (entry_record e).kind; body = b }) q ys r) same puts
 

@@ -14,7 +14,7 @@ use Rattle.sheet_format.specs.Value.{size_at, table}
 use Rattle.sheet_format.specs.Encoding.{framed}
 use Rattle.sheet_format.specs.Reading.{shows_table, shown}
 use Rattle.sheet_format.specs.Verdict.{Tally, Step, goes, stops, unless, ends_good, rows_good, with_constraint, constraint_step, constraints_due, step}
-use Rattle.sheet_format.specs.Writing.{Pen, put, put_step, has_constraint, entry_record, Puts, PutsEntry}
+use Rattle.sheet_format.specs.Writing.{WriterState, put, put_step, has_constraint, entry_record, Puts, PutsEntry}
 use Rattle.sheet.specs.Sizes.{SizesLow}
 use Rattle.sheet.proofs.Entries.{same_shown}
 
@@ -55,7 +55,7 @@ too_many g a b rows at after low many =
     (cond-false (eqb (length (flat_map eight rows)) (8 * size_at g.variables a)) (unless (rows_good (size_at g.variables a) (size_at g.variables b) (flat_map eight rows)) BadRow (goes (with_constraint g after))) (stops WrongLength) differs)
 
 -- so it is refused as its first 65 rows are
-refused : (p : Pen) (size long at a b : ℕ) (rows : List ℕ) → SizesLow p.tally.variables → 65 ≤ length rows
+refused : (p : WriterState) (size long at a b : ℕ) (rows : List ℕ) → SizesLow p.tally.variables → 65 ≤ length rows
     → put p size (shows_table a b (flat_map eight rows) at) long ≡ cond p.is_open (Err (Format (stopped p.tally a b).cause)) (Err Closed)
 refused p size long at a b rows low many =
     ap (λ s. cond p.is_open (put_step p size (p.place + long) s) (Err Closed)) (too_many p.tally a b rows at _ low many ∙ (stopped p.tally a b).there)
@@ -64,11 +64,11 @@ refused p size long at a b rows low many =
 table_shows : (a b : ℕ) (rows : List ℕ) (place : ℕ) → shown 4 (a ∷ (b ∷ rows)) place ≡ Some (shows_table a b rows (place + 6))
 table_shows a b rows place = ap Some (cond-false _ _ _ (le-ltb (length (a ∷ (b ∷ rows))) 2 (omega arith)))
 
-not_taken : (t : Bool) (c : Cause) (q : Pen) → ◌≡◌ {A = Result Pen WriteFault} (cond t (Err (Format c)) (Err Closed)) (Ok q) → ⊥
+not_taken : (t : Bool) (c : Cause) (q : WriterState) → ◌≡◌ {A = Result WriterState WriteFault} (cond t (Err (Format c)) (Err Closed)) (Ok q) → ⊥
 not_taken true c q e = let z : ◌≡◌ {A = ℕ} 0 1 = cc in omega arith
 not_taken false c q e = let z : ◌≡◌ {A = ℕ} 0 1 = cc in omega arith
 
-same_refusal : (p : Pen) (xs : List ℕ) (a b : ℕ) (rows : List ℕ) (q : Pen) (ys : List ℕ) (r : Result ℕ WriteFault) → SizesLow p.tally.variables → 65 ≤ length rows
+same_refusal : (p : WriterState) (xs : List ℕ) (a b : ℕ) (rows : List ℕ) (q : WriterState) (ys : List ℕ) (r : Result ℕ WriteFault) → SizesLow p.tally.variables → 65 ≤ length rows
     → PutsEntry p xs (has_constraint (table a b (take 65 rows))) q ys r → PutsEntry p xs (has_constraint (table a b rows)) q ys r
 same_refusal p xs a b rows q ys r low many (s, shows, puts) =
     by r (subst (λ t. Puts p xs t (framed (entry_record (has_constraint (table a b (take 65 rows))))) q ys r) (same_shown s (shows_table a b (flat_map eight (take 65 rows)) (p.place + 6)) (sym shows ∙ table_shows a b (flat_map eight (take 65 rows)) p.place)) puts)
@@ -81,7 +81,7 @@ same_refusal p xs a b rows q ys r low many (s, shows, puts) =
     by (Err fault) so =
         (shows_table a b (flat_map eight rows) (p.place + 6), table_shows a b (flat_map eight rows) p.place, (refused p (length xs) _ (p.place + 6) a b rows low many ∙ sym (first _) ∙ so.0, so.1, so.2))
 
-pub few_rows : (p : Pen) (xs : List ℕ) (a b many : ℕ) (rows : List ℕ) (q : Pen) (ys : List ℕ) (r : Result ℕ WriteFault) → SizesLow p.tally.variables → many ≡ min (length rows) 65
+pub few_rows : (p : WriterState) (xs : List ℕ) (a b many : ℕ) (rows : List ℕ) (q : WriterState) (ys : List ℕ) (r : Result ℕ WriteFault) → SizesLow p.tally.variables → many ≡ min (length rows) 65
     → PutsEntry p xs (has_constraint (table a b (take many rows))) q ys r → PutsEntry p xs (has_constraint (table a b rows)) q ys r
 few_rows p xs a b many rows q ys r low e puts = ⊎_elim fewer more (cases_lt (length rows) 65)
   where

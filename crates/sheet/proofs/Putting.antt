@@ -4,27 +4,27 @@ use Rattle.sheet_format.specs.declared.writing.WriteFault.{WriteFault}
 use Rattle.sheet_format.specs.declared.writing.WriteFault.TheVariants.{ShortBuffer, Closed}
 use Rattle.sheet_format.specs.Reading.{Shown}
 use Rattle.sheet_format.specs.Verdict.{Tally, Step, step}
-use Rattle.sheet_format.specs.Writing.{Pen, lies_in, put_step, put}
+use Rattle.sheet_format.specs.Writing.{WriterState, lies_in, put_step, put}
 use Rattle.sheet.specs.declared.progress.Next.{Next}
 use Rattle.sheet.specs.declared.progress.Next.TheVariants.{Heading, Variable, Constraint, Move, End}
 use Rattle.sheet.specs.Steps.{is_end, kept, next_step, Fits, Became}
 use Rattle.sheet.specs.Sizes.{SizesLow}
 use Rattle.sheet.proofs.Limits.{low_push}
 
-opened : (p : Pen) (b : Bool) (r s : Result Pen WriteFault) → b ≡ true → r ≡ s → cond b r (Err Closed) ≡ s
+opened : (p : WriterState) (b : Bool) (r s : Result WriterState WriteFault) → b ≡ true → r ≡ s → cond b r (Err Closed) ≡ s
 opened p true r s e f = f
 opened p false r s e f = absurd (let z : ◌≡◌ {A = ℕ} 0 1 = cc in omega arith)
 
 -- a record that fits, and one that does not
-fits_ok : (b : Bool) (r : Pen) → b ≡ true → ◌≡◌ {A = Result Pen WriteFault} (cond b (Ok r) (Err ShortBuffer)) (Ok r)
+fits_ok : (b : Bool) (r : WriterState) → b ≡ true → ◌≡◌ {A = Result WriterState WriteFault} (cond b (Ok r) (Err ShortBuffer)) (Ok r)
 fits_ok true r e = refl
 fits_ok false r e = absurd (let z : ◌≡◌ {A = ℕ} 0 1 = cc in omega arith)
 
-short : (b : Bool) (r : Pen) → b ≡ false → ◌≡◌ {A = Result Pen WriteFault} (cond b (Ok r) (Err ShortBuffer)) (Err ShortBuffer)
+short : (b : Bool) (r : WriterState) → b ≡ false → ◌≡◌ {A = Result WriterState WriteFault} (cond b (Ok r) (Err ShortBuffer)) (Err ShortBuffer)
 short false r e = refl
 short true r e = absurd (let z : ◌≡◌ {A = ℕ} 0 1 = cc in omega arith)
 
-fits_step : (p : Pen) (size after : ℕ) (next : Next) (h : Tally) → Became p.tally (next_step p.tally after next) h → lies_in size (after + kept next) ≡ true
+fits_step : (p : WriterState) (size after : ℕ) (next : Next) (h : Tally) → Became p.tally (next_step p.tally after next) h → lies_in size (after + kept next) ≡ true
     → put_step p size after (next_step p.tally after next) ≡ Ok (record { tally = h; place = after; is_open = not (is_end next) })
 fits_step p size after (Heading n) h became fits = fits_ok _ _ fits ∙ ap (λ g. Ok (record { tally = g; place = after; is_open = true })) (sym became)
 fits_step p size after (Variable v) h became fits = fits_ok _ _ fits ∙ ap (λ g. Ok (record { tally = g; place = after; is_open = true })) (sym became)
@@ -33,7 +33,7 @@ fits_step p size after Move h became fits = fits_ok _ _ fits ∙ ap (λ g. Ok (r
 fits_step p size after End h became fits =
     fits_ok (lies_in size after) _ (subst (λ n. lies_in size n ≡ true) (omega arith) fits) ∙ ap (λ g. Ok (record { tally = g; place = after; is_open = false })) (sym became)
 
-short_step : (p : Pen) (size after : ℕ) (next : Next) → lies_in size (after + kept next) ≡ false → put_step p size after (next_step p.tally after next) ≡ Err ShortBuffer
+short_step : (p : WriterState) (size after : ℕ) (next : Next) → lies_in size (after + kept next) ≡ false → put_step p size after (next_step p.tally after next) ≡ Err ShortBuffer
 short_step p size after (Heading n) fits = short _ _ fits
 short_step p size after (Variable v) fits = short _ _ fits
 short_step p size after Constraint fits = short _ _ fits
@@ -57,8 +57,8 @@ became_low g h after Move e fits low = subst (λ t. SizesLow t.variables) (sym e
 became_low g h after End e fits low = subst (λ t. SizesLow t.variables) (sym e) low
 
 -- a record of so many bytes that ends before a place
-module _ (p : Pen) (size long after : ℕ) (s : Shown) (is_open : p.is_open ≡ true) (at : after ≡ p.place + long) where
-  by_step : (st : Step) (r : Result Pen WriteFault) → step p.tally s after ≡ st → put_step p size after st ≡ r → put p size s long ≡ r
+module _ (p : WriterState) (size long after : ℕ) (s : Shown) (is_open : p.is_open ≡ true) (at : after ≡ p.place + long) where
+  by_step : (st : Step) (r : Result WriterState WriteFault) → step p.tally s after ≡ st → put_step p size after st ≡ r → put p size s long ≡ r
   by_step st r judged e = opened p p.is_open _ r is_open (subst (λ n. put_step p size n (step p.tally s n) ≡ r) at (ap (put_step p size after) judged ∙ e))
 
   pub put_fits : (next : Next) (h : Tally) (last : Bool) → last ≡ is_end next → step p.tally s after ≡ next_step p.tally after next → Became p.tally (next_step p.tally after next) h → lies_in size (after + kept next) ≡ true

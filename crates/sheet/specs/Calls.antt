@@ -3,7 +3,7 @@ use Rattle.std.specs.Prelude.{◌≡◌, ℕ, Bool, true, false, cond, List, [],
 use Rattle.sheet_format.specs.declared.writing.WriteFault.{WriteFault}
 use Rattle.sheet_format.specs.Value.{sum, table, add, retract}
 use Rattle.sheet_format.specs.Beginnings.{Begun, nothing_begun}
-use Rattle.sheet_format.specs.Writing.{Entry, heads, has_variable, has_constraint, has_move, ends_here, Pen, new_pen, PutsEntry, Abandons}
+use Rattle.sheet_format.specs.Writing.{Entry, heads, has_variable, has_constraint, has_move, ends_here, WriterState, new_writer, PutsEntry, Abandons}
 use Rattle.sheet_format.specs.Written.{begun_with, Written, Whole}
 use Rattle.sheet.specs.declared.calls.Call.{Call}
 use Rattle.sheet.specs.declared.calls.Call.TheVariants.{Heading, Variable, Sum, Table, Add, Retract, End, Abandon}
@@ -20,16 +20,16 @@ asked End = Some ends_here
 asked Abandon = None
 
 -- one call: the writer and the buffer before and after it, and its answer
-abbrev pub Makes : Pen → List ℕ → Option Entry → Pen → List ℕ → Result ℕ WriteFault → Type 0
+abbrev pub Makes : WriterState → List ℕ → Option Entry → WriterState → List ℕ → Result ℕ WriteFault → Type 0
 Makes p xs (Some e) q ys r = PutsEntry p xs e q ys r
 Makes p xs None q ys r = Abandons p q r × (ys ≡ xs)
 
 -- the calls one after the other, each with its answer
-abbrev pub Runs : Pen → List ℕ → List Call → List (Result ℕ WriteFault) → Pen → List ℕ → Type 0
+abbrev pub Runs : WriterState → List ℕ → List Call → List (Result ℕ WriteFault) → WriterState → List ℕ → Type 0
 Runs p xs [] [] q ys = (q ≡ p) × (ys ≡ xs)
 Runs p xs [] (r ∷ rs) q ys = ⊥
 Runs p xs (c ∷ cs) [] q ys = ⊥
-Runs p xs (c ∷ cs) (r ∷ rs) q ys = (m : Pen) × (zs : List ℕ) × Makes p xs (asked c) m zs r × Runs m zs cs rs q ys
+Runs p xs (c ∷ cs) (r ∷ rs) q ys = (m : WriterState) × (zs : List ℕ) × Makes p xs (asked c) m zs r × Runs m zs cs rs q ys
 
 -- an entry that was put, and the place that the call answered
 pub record Placed : Type 0 where
@@ -69,12 +69,12 @@ end_place (e ∷ es) = cond (is_the_end e.entry) (Some e.place) (end_place es)
 
 -- What stands in the buffer when these entries were put: a beginning of a sheet, or, if the end is among them, the whole sheet before the place that
 -- was answered to the end, and the writer is closed.
-pub data Stands (es : List Placed) (p : Pen) (buffer : List ℕ) : Type 0 where
+pub data Stands (es : List Placed) (p : WriterState) (buffer : List ℕ) : Type 0 where
   unended : end_place es ≡ None → Written (begun_by es) p buffer → Stands es p buffer
   whole : (place : ℕ) → end_place es ≡ Some place → p.is_open ≡ false → Whole (begun_by es) place buffer → Stands es p buffer
 
 -- A writer's calls were made on a buffer, which was `xs` and is `ys`; the entries that were put stand there.
 pub record Wrote (xs : List ℕ) (calls : List Call) (answers : List (Result ℕ WriteFault)) (ys : List ℕ) : Type 0 where
-  pub writer : Pen
-  pub runs : Runs new_pen xs calls answers writer ys
+  pub writer : WriterState
+  pub runs : Runs new_writer xs calls answers writer ys
   pub stands : Stands (all_put calls answers) writer ys

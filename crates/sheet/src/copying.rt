@@ -1,7 +1,7 @@
 // Putting the records of a sheet into a buffer, through a writer.
 ghost use Rattle.std.specs.Prelude.{◌≡◌, ◌≤◌, ◌/◌, length};
 ghost use Rattle.sheet_format.specs.Decoding.{rows_in};
-ghost use Rattle.sheet_format.specs.Writing.{new_pen, PutsEntry};
+ghost use Rattle.sheet_format.specs.Writing.{new_writer, PutsEntry};
 ghost use Rattle.sheet.specs.Outcome.{shown_by};
 ghost use Rattle.sheet.specs.Copying.{IsAccepted, Sayable, entry_in, Copied, Rewrites, rewrite_number};
 ghost use Rattle.sheet.specs.declared.copying.RewriteFault.TheVariants.{Sheet, Write};
@@ -91,7 +91,7 @@ fn put_record(
 
 // the records of an accepted sheet, one after the other
 fn copy(writer: &mut Writer, sheet: &[u8], buffer: &mut [u8]) -> Result<usize, WriteFault>
-    requires fresh { writer.old ≡ new_pen }
+    requires fresh { writer.old ≡ new_writer }
     requires accepted { IsAccepted sheet.now }
     ensures { Copied sheet.now buffer.old buffer.new result }
 {

@@ -13,7 +13,7 @@ ghost use Rattle.sheet_format.specs.Written.{Written, Grows};
 ghost use Rattle.sheet.specs.Sizes.{SizesLow};
 ghost use Rattle.sheet.specs.Weighing.{RecordFits, Weighed};
 ghost use Rattle.sheet_format.specs.Reading.{Shown, shown};
-ghost use Rattle.sheet_format.specs.Writing.{Pen, new_pen, heads, has_variable, has_constraint, has_move, ends_here, lies_in, laid, PutsRecord, PutsEntry, Abandons};
+ghost use Rattle.sheet_format.specs.Writing.{WriterState, new_writer, heads, has_variable, has_constraint, has_move, ends_here, lies_in, laid, PutsRecord, PutsEntry, Abandons};
 
 use crate::formula::Formula;
 use crate::progress::{Next, Progress};
@@ -31,7 +31,7 @@ pub struct Writer {
 }
 
 impl Model for Writer {
-    ghost Value = { Pen };
+    ghost Value = { WriterState };
 
     ghost view = { λ w. record { tally = w.progress; place = w.place; is_open = w.is_open } };
 
@@ -165,7 +165,7 @@ impl Writer {
     // A writer that has written nothing.
     #[tactic(auto, using(sheet_law::proofs::Growing::nothing_written))]
     pub fn new() -> Writer
-        ensures call { result ≡ new_pen }
+        ensures call { result ≡ new_writer }
         ensures written { (xs : List ℕ) → Written nothing_begun result xs }
     {
         Writer {

@@ -120,9 +120,6 @@ sizes_of s sizes v many each = record {
   back = λ e h. each (house_at s.variables e) (house_below s e v h) ∙ size_found s.variables e v.houses_differ h;
 }
 
-pub no_sizes : (sizes : List ℕ) → length sizes ≡ 0 → SizesOf empty_sheet sizes
-no_sizes sizes e = record { many = e; each = λ h l. absurd (omega arith); back = λ h l. absurd (omega arith) }
-
 -- a list that has the numbers one by one
 pub numbers_all : (s : Sheet) (xs : List ℕ) → length xs ≡ 32 → ((k : ℕ) → k < 32 → get_or xs k 0 ≡ number_of s k) → xs ≡ numbers_of s
 unfolding numbers_of
@@ -162,6 +159,3 @@ sizes_in bytes z sizes r e wide each =
     let long : length (take z.variables sizes) ≡ z.variables = length-take-le z.variables sizes (omega arith) in
     subst (λ s. SizesOf s (take z.variables sizes)) (sym (accepted_in bytes z r))
     (sizes_of (decode bytes) (take z.variables sizes) e.valid (long ∙ many) (λ h l. get_or-take z.variables sizes h 0 (omega arith) ∙ each h (omega arith)))
-
-pub refused_sizes : (bytes : List ℕ) (f : SheetFault) (sizes : List ℕ) → Err f ≡ verdict bytes → SizesOf (sheet_in bytes) (take 0 sizes)
-refused_sizes bytes f sizes r = subst (λ s. SizesOf s (take 0 sizes)) (sym (refused_in bytes f r)) (no_sizes (take 0 sizes) refl)

@@ -15,7 +15,7 @@ use Rattle.sheet_law.proofs.Framing.{Short, framed-length, variables_long, frame
 use Rattle.sheet_law.proofs.Rows.{rows_there}
 use Rattle.sheet_law.proofs.Forward.{size_low}
 use Rattle.sheet_catalog.specs.Meant.{constraint_at, no_constraint}
-use Rattle.sheet_catalog.specs.Begun.{BeginsAt, Begun}
+use Rattle.sheet_catalog.specs.StartsAt.{BeginsAt, StartsAt}
 use Rattle.sheet_catalog.specs.Lawfulness.{constraint_valid}
 
 -- the bytes after the constraints
@@ -115,9 +115,9 @@ pub short_in : (bytes : List ℕ) (z : Summary) → Encodes bytes z → length b
 short_in bytes z e = subst (λ ys. length ys ≤ 65535) e.same e.valid.short
 
 -- one start more
-pub begun_more : (bytes : List ℕ) (s : Sheet) (starts : List ℕ) (p place : ℕ) → p < length starts → ((k : ℕ) → k < p → Begun bytes s starts k)
-    → BeginsAt bytes place (constraint_record (constraint_at s p)) → (k : ℕ) → k < p + 1 → Begun bytes s (set starts p place) k
+pub begun_more : (bytes : List ℕ) (s : Sheet) (starts : List ℕ) (p place : ℕ) → p < length starts → ((k : ℕ) → k < p → StartsAt bytes s starts k)
+    → BeginsAt bytes place (constraint_record (constraint_at s p)) → (k : ℕ) → k < p + 1 → StartsAt bytes s (set starts p place) k
 begun_more bytes s starts p place l before here =
-    below_more (λ k. Begun bytes s (set starts p place) k) p
+    below_more (λ k. StartsAt bytes s (set starts p place) k) p
     (λ k h. subst (λ q. BeginsAt bytes q (constraint_record (constraint_at s k))) (sym (get_or-set_other starts p k place 0 (omega arith))) (before k h))
     (subst (λ q. BeginsAt bytes q (constraint_record (constraint_at s p))) (sym (get_or-set_same starts p place 0 l)) here)

@@ -10,7 +10,7 @@ use Rattle.sheet_format.specs.Reading.{shows_short_table, shown, reading, taken_
 use Rattle.sheet_law.proofs.Framing.{Short, framed_read}
 use Rattle.sheet_law.proofs.Laws.{constraint_back}
 use Rattle.sheet_catalog.specs.Meant.{left_end, right_end, constraint_at, meaning_of, sheet_in}
-use Rattle.sheet_catalog.specs.Begun.{BeginsAt}
+use Rattle.sheet_catalog.specs.StartsAt.{BeginsAt}
 use Rattle.sheet_catalog.specs.Lawfulness.{valid_with_constraint, constraint_valid, bytes_lawful, good_ends}
 use Rattle.sheet_catalog.proofs.Read.{begun_rest, constraint_short}
 use Rattle.sheet_catalog.specs.Viewed.{meant_by, meant, constraint_shown, constraint_read}

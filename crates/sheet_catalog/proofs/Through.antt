@@ -7,7 +7,7 @@ use Rattle.sheet_format.specs.Numbers.{number2}
 use Rattle.sheet_format.specs.Encoding.{constraint_record}
 use Rattle.sheet_format.specs.Decoding.{decode}
 use Rattle.sheet_catalog.specs.Meant.{sheet_in, constraint_at}
-use Rattle.sheet_catalog.specs.Begun.{BeginsAt, Begun}
+use Rattle.sheet_catalog.specs.StartsAt.{BeginsAt, StartsAt}
 use Rattle.sheet_catalog.specs.Lawfulness.{accepted_in, counted_in}
 use Rattle.sheet_catalog.proofs.Read.{Stepped, stepped_in, from_constraint, first_place, few_in, begun_more}
 
@@ -25,14 +25,14 @@ pub onward_at : (s : Accepted) (p place : ℕ) → p < s.found.constraints → d
 onward_at s p place h e = (stepped_at s p place h e).onward
 
 pub begun_at : (s : Accepted) (starts : List ℕ) (p place : ℕ) → p < length starts → p < s.found.constraints → drop place s.bytes.now ≡ from_constraint (decode s.bytes.now) p
-    → ((k : ℕ) → k < p → Begun s.bytes.now (decode s.bytes.now) starts k) → (k : ℕ) → k < p + 1 → Begun s.bytes.now (decode s.bytes.now) (set starts p place) k
+    → ((k : ℕ) → k < p → StartsAt s.bytes.now (decode s.bytes.now) starts k) → (k : ℕ) → k < p + 1 → StartsAt s.bytes.now (decode s.bytes.now) (set starts p place) k
 begun_at s starts p place l h e before = begun_more s.bytes.now (decode s.bytes.now) starts p place l before (stepped_at s p place h e).begun
 
 -- places that stand at the front of a list
-pub begun_front : (s : Accepted) (starts rest : List ℕ) (p : ℕ) → p < length starts → Begun s.bytes.now (decode s.bytes.now) starts p
-    → Begun s.bytes.now (sheet_in s.bytes.now) (starts ++ rest) p
+pub begun_front : (s : Accepted) (starts rest : List ℕ) (p : ℕ) → p < length starts → StartsAt s.bytes.now (decode s.bytes.now) starts p
+    → StartsAt s.bytes.now (sheet_in s.bytes.now) (starts ++ rest) p
 begun_front s starts rest p l b =
-    subst (λ t. Begun s.bytes.now t (starts ++ rest) p) (sym (accepted_in s.bytes.now s.found s.accepted))
+    subst (λ t. StartsAt s.bytes.now t (starts ++ rest) p) (sym (accepted_in s.bytes.now s.found s.accepted))
     (subst (λ q. BeginsAt s.bytes.now q (constraint_record (constraint_at (decode s.bytes.now) p))) (sym (get_or_append_left starts rest 0 p l)) b)
 
 -- how many there are

@@ -1,4 +1,5 @@
--- The sheet that bytes hold is valid, or it is empty; what it means is lawful. It stands with the definitions since the catalog over the bytes cites it as its own
+-- The sheet that bytes hold is valid, or it is empty; what it means is lawful. It stands with the definitions since the catalog over the bytes has it as
+-- its member `lawful`, and what a type's members cite stands there.
 use Rattle.std.proofs.Common.{◌≡◌, ℕ, ◌<◌, ◌≤◌, Bool, true, false, cond, ltb, List, length, get_or, is_ok, Some, None, Ok, Err, Result, sym, refl, ap, ◌∙◌, subst, arith}
 use Rattle.std.proofs.ByRecursion.{All-get_or}
 use Rattle.std.proofs.lemmas.Bool.{ltb-true}

@@ -1,6 +1,6 @@
 pub mod Meant
 pub mod Lawfulness
-pub mod Begun
+pub mod StartsAt
 pub mod Placed
 pub mod Viewed
 pub mod Combined

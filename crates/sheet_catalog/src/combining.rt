@@ -1,17 +1,17 @@
 // The constraints of a sheet, its variables by their house numbers, and those of the house, as one catalog.
 ghost use Rattle.std.specs.Prelude.{◌≡◌};
+ghost use Rattle.catalog.specs.House.{house};
 ghost use Rattle.catalog.specs.Joined.{joined};
 ghost use Rattle.catalog.specs.Renumbered.{renumbered};
-ghost use Rattle.catalog.specs.House.{house};
 ghost use Rattle.sheet_catalog.specs.Meant.{meaning_of, sheet_in};
 ghost use Rattle.sheet_catalog.specs.Combined.{combined_of};
 
 use crate::SheetCatalog;
 use crate::numbers::numbering_of;
+use catalog::house::HouseCatalog;
 use catalog::joined::Joined;
 use catalog::numbering::Numbering;
 use catalog::renumbered::Renumbered;
-use catalog::house::HouseCatalog;
 use sheet::Accepted;
 
 // The constraints of the sheet with its variables renumbered, then those of the house.

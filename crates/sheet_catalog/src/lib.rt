@@ -4,7 +4,7 @@
 
 ghost use Rattle.std.specs.Prelude.{◌≡◌, ℕ, ◌<◌, ◌≤◌, length, slice_index};
 ghost use Rattle.sheet_catalog.specs.Meant.{meaning_of, sheet_in};
-ghost use Rattle.sheet_catalog.specs.Begun.{Begun};
+ghost use Rattle.sheet_catalog.specs.StartsAt.{StartsAt};
 ghost use Rattle.sheet_catalog.specs.Lawfulness.{bytes_lawful};
 
 use catalog::Catalog;
@@ -31,7 +31,7 @@ pub struct SheetCatalog<'a> {
     ghost counted: { count ≡ length (sheet_in bytes.now).constraints },
     ghost few: { count ≤ 96 },
     ghost wide: { length starts ≡ 96 },
-    ghost begun: { (p : ℕ) → p < count → Begun bytes.now (sheet_in bytes.now) starts p },
+    ghost begun: { (p : ℕ) → p < count → StartsAt bytes.now (sheet_in bytes.now) starts p },
 }
 
 impl<'a> Catalog for SheetCatalog<'a> {

@@ -3,7 +3,7 @@ ghost use Rattle.std.specs.Prelude.{◌≡◌, ℕ, ◌<◌, ◌≤◌, length, 
 ghost use Rattle.std.specs.Option.{option_map};
 ghost use Rattle.sheet_format.specs.Reading.{reading};
 ghost use Rattle.sheet_catalog.specs.Meant.{sheet_in};
-ghost use Rattle.sheet_catalog.specs.Begun.{Begun};
+ghost use Rattle.sheet_catalog.specs.StartsAt.{StartsAt};
 ghost use Rattle.sheet_catalog.specs.Viewed.{meant, constraint_read};
 
 use crate::view::{Constraint, constraint_in};
@@ -13,7 +13,7 @@ use sheet_format::word;
 // Where each constraint of the sheet begins, one after the other.
 pub(crate) fn starts_of(sheet: &Accepted<'_>) -> [u32; 96]
     ensures wide { length result ≡ 96 }
-    ensures begun { (p : ℕ) → p < sheet.now.found.constraints → Begun sheet.now.bytes.now (sheet_in sheet.now.bytes.now) result p }
+    ensures begun { (p : ℕ) → p < sheet.now.found.constraints → StartsAt sheet.now.bytes.now (sheet_in sheet.now.bytes.now) result p }
 {
     let mut starts = [0; 96];
     let mut place = sheet.found.constraints_at;

@@ -31,16 +31,16 @@ entry_record ends_here = end_record
 
 -- What a writer knows: the check's tally of the records so far, the place that they reach, and whether more may come: it is neither ended nor
 -- abandoned.
-pub record Pen : Type 0 where
+pub record WriterState : Type 0 where
   pub tally : Tally
   pub place : ℕ
   pub is_open : Bool
 
 -- nothing is written
-abbrev pub new_pen : Pen
-new_pen = record { tally = nothing_yet; place = 0; is_open = true }
+abbrev pub new_writer : WriterState
+new_writer = record { tally = nothing_yet; place = 0; is_open = true }
 
-abbrev pub closed : Pen → Pen
+abbrev pub closed : WriterState → WriterState
 closed p = record { tally = p.tally; place = p.place; is_open = false }
 
 -- what ends before this place lies in a buffer of so many bytes, and in the 65,535 bytes of a sheet
@@ -48,7 +48,7 @@ abbrev pub lies_in : ℕ → ℕ → Bool
 lies_in size after = not (nat_lt size after) && not (nat_lt 65535 after)
 
 -- A record that ends before the place `after`, by the check's step. One that is not the end leaves room for the four bytes of the end.
-abbrev pub put_step : Pen → ℕ → ℕ → Step → Result Pen WriteFault
+abbrev pub put_step : WriterState → ℕ → ℕ → Step → Result WriterState WriteFault
 put_step p size after (goes g) =
     cond (lies_in size (after + 4)) (Ok (record { tally = g; place = after; is_open = true })) (Err ShortBuffer)
 put_step p size after ends =
@@ -56,7 +56,7 @@ put_step p size after ends =
 put_step p size after (stops cause) = Err (Format cause)
 
 -- the writer after a record of so many bytes is put into a buffer of a size, or why it is refused
-abbrev pub put : Pen → ℕ → Shown → ℕ → Result Pen WriteFault
+abbrev pub put : WriterState → ℕ → Shown → ℕ → Result WriterState WriteFault
 put p size s long = cond p.is_open (put_step p size (p.place + long) (step p.tally s (p.place + long))) (Err Closed)
 
 -- a buffer with these bytes from a place on, and all others as they were
@@ -65,19 +65,19 @@ laid place bytes buffer = take place buffer ++ (bytes ++ drop (place + length by
 
 -- A call that puts a record: the new writer, and the answer, which is the place reached; the bytes stand in the buffer from the old place on.
 -- Or it is refused, and writer and buffer are as they were.
-abbrev pub Puts : Pen → List ℕ → Shown → List ℕ → Pen → List ℕ → Result ℕ WriteFault → Type 0
+abbrev pub Puts : WriterState → List ℕ → Shown → List ℕ → WriterState → List ℕ → Result ℕ WriteFault → Type 0
 Puts p xs s bytes q ys (Ok place) = (put p (length xs) s (length bytes) ≡ Ok q) × (place ≡ q.place) × (ys ≡ laid p.place bytes xs)
 Puts p xs s bytes q ys (Err fault) = (put p (length xs) s (length bytes) ≡ Err fault) × (q ≡ p) × (ys ≡ xs)
 
 -- the same of a record, by what it shows where it is put
-abbrev pub PutsRecord : Pen → List ℕ → Raw → Pen → List ℕ → Result ℕ WriteFault → Type 0
+abbrev pub PutsRecord : WriterState → List ℕ → Raw → WriterState → List ℕ → Result ℕ WriteFault → Type 0
 PutsRecord p xs raw q ys r = (s : Shown) × (shown raw.kind raw.body p.place ≡ Some s) × Puts p xs s (framed raw) q ys r
 
 -- the same of an entry
-abbrev pub PutsEntry : Pen → List ℕ → Entry → Pen → List ℕ → Result ℕ WriteFault → Type 0
+abbrev pub PutsEntry : WriterState → List ℕ → Entry → WriterState → List ℕ → Result ℕ WriteFault → Type 0
 PutsEntry p xs e = PutsRecord p xs (entry_record e)
 
 -- a call that closes an open writer and writes nothing; its answer is the place reached
-abbrev pub Abandons : Pen → Pen → Result ℕ WriteFault → Type 0
+abbrev pub Abandons : WriterState → WriterState → Result ℕ WriteFault → Type 0
 Abandons p q (Ok place) = (p.is_open ≡ true) × (q ≡ closed p) × (place ≡ p.place)
 Abandons p q (Err fault) = (p.is_open ≡ false) × (q ≡ p) × (fault ≡ Closed)

@@ -12,7 +12,7 @@ use Rattle.sheet_format.specs.Beginnings.{Begun, bytes_begun, Keeps, begun_tally
 use Rattle.sheet_format.specs.Verdict.{verdict}
 use Rattle.sheet_format.specs.Law.{summary_of}
 use Rattle.sheet_format.specs.Rules.{Rule, rules, FirstBroken, AllKept}
-use Rattle.sheet_format.specs.Writing.{Entry, heads, has_variable, has_constraint, has_move, ends_here, entry_record, Pen}
+use Rattle.sheet_format.specs.Writing.{Entry, heads, has_variable, has_constraint, has_move, ends_here, entry_record, WriterState}
 
 -- what is begun, with an entry more; the end adds nothing
 abbrev pub begun_with : Begun → Entry → Begun
@@ -24,7 +24,7 @@ begun_with b ends_here = b
 
 -- The writer has written this beginning of a sheet into the buffer so far: it keeps every rule, the writer's tally is of it, and the bytes before
 -- the place reached are its own.
-pub record Written (b : Begun) (p : Pen) (buffer : List ℕ) : Type 0 where
+pub record Written (b : Begun) (p : WriterState) (buffer : List ℕ) : Type 0 where
   pub keeps : Keeps b
   pub tallied : p.tally ≡ begun_tally b
   pub reached : p.place ≡ length (bytes_begun b)
@@ -40,7 +40,7 @@ pub record Whole (b : Begun) (place : ℕ) (buffer : List ℕ) : Type 0 where
   pub back : decode (take place buffer) ≡ begun_sheet b
 
 -- what is written after an entry was put where this beginning was written: one entry more, or the whole sheet
-abbrev pub Grown : Begun → Entry → Pen → List ℕ → ℕ → Type 0
+abbrev pub Grown : Begun → Entry → WriterState → List ℕ → ℕ → Type 0
 Grown b (heads n) q ys place = Written (begun_with b (heads n)) q ys
 Grown b (has_variable v) q ys place = Written (begun_with b (has_variable v)) q ys
 Grown b (has_constraint c) q ys place = Written (begun_with b (has_constraint c)) q ys
@@ -75,13 +75,13 @@ Passes size after = (size < after) ⊎ (65535 < after)
 
 -- Why an entry is refused where a beginning is written: its record breaks the rule of this number, and none before it; or it keeps every rule, and with
 -- what is kept for the end it passes the buffer's end or a sheet's; or the writer is no longer open.
-abbrev pub WhyRefused : Begun → Entry → Pen → ℕ → WriteFault → Type 0
+abbrev pub WhyRefused : Begun → Entry → WriterState → ℕ → WriteFault → Type 0
 WhyRefused b e p size (Format cause) = (p.is_open ≡ true) × FirstBroken (cause_number cause) (entry_rules b e)
 WhyRefused b e p size ShortBuffer =
     (p.is_open ≡ true) × AllKept (entry_rules b e) × Passes size (p.place + length (framed (entry_record e)) + kept_after e)
 WhyRefused b e p size Closed = p.is_open ≡ false
 
 -- the same of any answer: a refusal leaves what was written, and says why
-abbrev pub Grows : Begun → Entry → Pen → List ℕ → Result ℕ WriteFault → Type 0
+abbrev pub Grows : Begun → Entry → WriterState → List ℕ → Result ℕ WriteFault → Type 0
 Grows b e q ys (Ok place) = Grown b e q ys place
 Grows b e q ys (Err fault) = Written b q ys × WhyRefused b e q (length ys) fault

@@ -14,7 +14,7 @@ use Rattle.sheet_format.specs.Decoding.{rows_in, decode}
 use Rattle.sheet_format.specs.Beginnings.{Begun, records_begun, bytes_begun, AllThere, nothing_begun, begun_tally, begun_sheet}
 use Rattle.sheet_format.specs.Reading.{Shown, shows_end}
 use Rattle.sheet_format.specs.Verdict.{Tally, Step, goes, ends, stops, step, variable_of, verdict}
-use Rattle.sheet_format.specs.Writing.{Entry, heads, has_variable, has_constraint, has_move, ends_here, entry_record, Pen, new_pen, lies_in, put_step, put, laid, PutsEntry}
+use Rattle.sheet_format.specs.Writing.{Entry, heads, has_variable, has_constraint, has_move, ends_here, entry_record, WriterState, new_writer, lies_in, put_step, put, laid, PutsEntry}
 use Rattle.sheet_format.specs.Written.{begun_with, Written, Whole, Grown, WhyRefused, Grows}
 use Rattle.sheet_law.proofs.NumberLaws.{two_back, Bytes}
 use Rattle.sheet_law.proofs.Held.{GoesHeld, goes_held, end_held}
@@ -43,24 +43,24 @@ lies_low : (size place long more : ℕ) → lies_in size (place + long + more) �
 lies_low size place long more e = let p = lies_is size (place + long + more) e in omega (arith, p.0)
 
 -- the step of a record that was put, and what it makes of the writer
-pub data Put (p : Pen) (size after : ℕ) (st : Step) (q : Pen) : Type 0 where
+pub data Put (p : WriterState) (size after : ℕ) (st : Step) (q : WriterState) : Type 0 where
   put_on : (h : Tally) → st ≡ goes h → q ≡ record { tally = h; place = after; is_open = true } → lies_in size (after + 4) ≡ true → Put p size after st q
   put_end : st ≡ ends → q ≡ record { tally = p.tally; place = after; is_open = false } → lies_in size after ≡ true → Put p size after st q
 
-fits_there : (t : Bool) (r q : Pen) → ◌≡◌ {A = Result Pen WriteFault} (cond t (Ok r) (Err ShortBuffer)) (Ok q) → (t ≡ true) × (q ≡ r)
+fits_there : (t : Bool) (r q : WriterState) → ◌≡◌ {A = Result WriterState WriteFault} (cond t (Ok r) (Err ShortBuffer)) (Ok q) → (t ≡ true) × (q ≡ r)
 fits_there true r q e = (refl, cc)
 fits_there false r q e = absurd (let z : ◌≡◌ {A = ℕ} 0 1 = cc in omega arith)
 
-by_step : (p : Pen) (size after : ℕ) (st : Step) (q : Pen) → put_step p size after st ≡ Ok q → Put p size after st q
+by_step : (p : WriterState) (size after : ℕ) (st : Step) (q : WriterState) → put_step p size after st ≡ Ok q → Put p size after st q
 by_step p size after (goes h) q e = let t = fits_there _ _ q e in put_on h refl t.1 t.0
 by_step p size after ends q e = let t = fits_there _ _ q e in put_end refl t.1 t.0
 by_step p size after (stops cause) q e = absurd (let z : ◌≡◌ {A = ℕ} 0 1 = cc in omega arith)
 
-was_open : (t : Bool) (r : Result Pen WriteFault) (q : Pen) → cond t r (Err Closed) ≡ Ok q → r ≡ Ok q
+was_open : (t : Bool) (r : Result WriterState WriteFault) (q : WriterState) → cond t r (Err Closed) ≡ Ok q → r ≡ Ok q
 was_open true r q e = e
 was_open false r q e = absurd (let z : ◌≡◌ {A = ℕ} 0 1 = cc in omega arith)
 
-pub put_is : (p : Pen) (size : ℕ) (s : Shown) (long : ℕ) (q : Pen) → put p size s long ≡ Ok q → Put p size (p.place + long) (step p.tally s (p.place + long)) q
+pub put_is : (p : WriterState) (size : ℕ) (s : Shown) (long : ℕ) (q : WriterState) → put p size s long ≡ Ok q → Put p size (p.place + long) (step p.tally s (p.place + long)) q
 put_is p size s long q e = by_step p size (p.place + long) (step p.tally s (p.place + long)) q (was_open p.is_open _ q e)
 
 -- the numbers of an entry fit into their fields
@@ -119,12 +119,12 @@ entry_with_raw b (has_move (retract p)) f =
     same_begun _ _ _ _ _ _ _ _ refl (append-nil b.variables) (append-nil b.constraints) (ap (λ x. b.moves ++ (retract x ∷ [])) (two_back p [] f))
 entry_with_raw b ends_here f = same_begun _ _ _ _ _ _ _ _ refl (append-nil b.variables) (append-nil b.constraints) (append-nil b.moves)
 
-module _ (b : Begun) (p : Pen) (xs : List ℕ) (w : Written b p xs) (raw : Raw) (ys : List ℕ) (same : ys ≡ laid p.place (framed raw) xs) where
+module _ (b : Begun) (p : WriterState) (xs : List ℕ) (w : Written b p xs) (raw : Raw) (ys : List ℕ) (same : ys ≡ laid p.place (framed raw) xs) where
   -- the bytes before the place reached
   bytes_there : p.place ≤ length xs → take (p.place + length (framed raw)) ys ≡ bytes_begun b ++ framed raw
   bytes_there l = ap (take (p.place + length (framed raw))) same ∙ take_laid p.place (framed raw) xs l ∙ ap (λ zs. zs ++ framed raw) w.bytes
 
-  goes_on : (s : Shown) → KindIs raw.kind raw.body s → Bytes raw.body → (q : Pen) (h : Tally) → step p.tally s (p.place + length (framed raw)) ≡ goes h
+  goes_on : (s : Shown) → KindIs raw.kind raw.body s → Bytes raw.body → (q : WriterState) (h : Tally) → step p.tally s (p.place + length (framed raw)) ≡ goes h
       → q ≡ record { tally = h; place = p.place + length (framed raw); is_open = true } → p.place ≤ length xs → Written (begun_with_raw b raw) q ys
   goes_on s kind low q h st made l =
       let reached = w.reached in
@@ -144,7 +144,7 @@ module _ (b : Begun) (p : Pen) (xs : List ℕ) (w : Written b p xs) (raw : Raw) 
       } in
       subst (λ z. Written z q ys) x.move_of next
 
-whole : (b : Begun) (p : Pen) (xs : List ℕ) → Written b p xs → (ys : List ℕ) → ys ≡ laid p.place (framed end_record) xs → (place : ℕ) → place ≡ p.place + 4
+whole : (b : Begun) (p : WriterState) (xs : List ℕ) → Written b p xs → (ys : List ℕ) → ys ≡ laid p.place (framed end_record) xs → (place : ℕ) → place ≡ p.place + 4
     → step p.tally (shows_end []) (p.place + 4) ≡ ends → p.place ≤ length xs → p.place + 4 ≤ 65535 → Whole b place ys
 whole b p xs w ys same place at s l short =
     let reached = w.reached in
@@ -155,7 +155,7 @@ whole b p xs w ys same place at s l short =
     let v : Valid (begun_sheet b) = begun_valid b w.keeps all (omega arith) in
     record { valid = v; reached = omega arith; bytes = there; accepted = ap verdict there ∙ encoded_accepted (begun_sheet b) v; back = ap decode there ∙ decode-encode (begun_sheet b) v }
 
-module _ (b : Begun) (p : Pen) (xs : List ℕ) (w : Written b p xs) (q : Pen) (ys : List ℕ) (place : ℕ) where
+module _ (b : Begun) (p : WriterState) (xs : List ℕ) (w : Written b p xs) (q : WriterState) (ys : List ℕ) (place : ℕ) where
   -- an entry that is not the end
   one_more : (e : Entry) → Fields e → ((entry_record e).kind ≡ 7 → ⊥) → PutsEntry p xs e q ys (Ok place) → Written (begun_with b e) q ys
   one_more e f not_last (s, shows, puts) = by (put_is p (length xs) s (length (framed (entry_record e))) q puts.0)
@@ -188,18 +188,18 @@ module _ (b : Begun) (p : Pen) (xs : List ℕ) (w : Written b p xs) (q : Pen) (y
   grown ends_here f puts = the_last puts
 
 -- after any call that puts an entry, one entry more is written, or the sheet is whole, or what was written is as it was, and it is said why
-pub grows : (b : Begun) (p : Pen) (xs : List ℕ) (q : Pen) (ys : List ℕ) (e : Entry) (r : Result ℕ WriteFault) → Fields e → Written b p xs → PutsEntry p xs e q ys r → Grows b e q ys r
+pub grows : (b : Begun) (p : WriterState) (xs : List ℕ) (q : WriterState) (ys : List ℕ) (e : Entry) (r : Result ℕ WriteFault) → Fields e → Written b p xs → PutsEntry p xs e q ys r → Grows b e q ys r
 grows b p xs q ys e (Ok place) f w puts = grown b p xs w q ys place e f puts
 grows b p xs q ys e (Err fault) f w (s, shows, puts) =
     subst (λ z. Written b z ys × WhyRefused b e z (length ys) fault) (sym puts.1)
     (subst (λ zs. Written b p zs × WhyRefused b e p (length zs) fault) (sym puts.2) (w, why_refused b p xs w (length xs) e s shows fault puts.0))
 
 -- a writer that has written nothing
-pub nothing_written : (xs : List ℕ) → Written nothing_begun new_pen xs
+pub nothing_written : (xs : List ℕ) → Written nothing_begun new_writer xs
 nothing_written xs = record { keeps = nothing_keeps; tallied = refl; reached = refl; bytes = refl }
 
 -- an end that is put closes the writer
-pub end_closes : (p : Pen) (xs : List ℕ) (q : Pen) (ys : List ℕ) (place : ℕ) → PutsEntry p xs ends_here q ys (Ok place) → q.is_open ≡ false
+pub end_closes : (p : WriterState) (xs : List ℕ) (q : WriterState) (ys : List ℕ) (place : ℕ) → PutsEntry p xs ends_here q ys (Ok place) → q.is_open ≡ false
 end_closes p xs q ys place (s, shows, puts) = by (put_is p (length xs) s 4 q puts.0)
   where
     by : Put p (length xs) (p.place + 4) (step p.tally s (p.place + 4)) q → q.is_open ≡ false

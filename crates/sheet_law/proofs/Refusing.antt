@@ -10,7 +10,7 @@ use Rattle.sheet_format.specs.Encoding.{framed, end_record}
 use Rattle.sheet_format.specs.Beginnings.{Begun, begun_tally}
 use Rattle.sheet_format.specs.Reading.{Shown, shows_end, shown}
 use Rattle.sheet_format.specs.Verdict.{Tally, Step, goes, ends, stops, step}
-use Rattle.sheet_format.specs.Writing.{Entry, heads, has_variable, has_constraint, has_move, ends_here, entry_record, Pen, lies_in, put_step, put}
+use Rattle.sheet_format.specs.Writing.{Entry, heads, has_variable, has_constraint, has_move, ends_here, entry_record, WriterState, lies_in, put_step, put}
 use Rattle.sheet_format.specs.Written.{Written, entry_kind, entry_rules, kept_after, Passes, WhyRefused}
 use Rattle.sheet_law.proofs.Held.{goes_held, end_held}
 use Rattle.sheet_law.proofs.Shows.{kind_is}
@@ -39,19 +39,19 @@ lies_not size after e = by (ltb size after) (ltb 65535 after) refl refl e
     by false false p q e = absurd (let z : ◌≡◌ {A = ℕ} 0 1 = cc in omega arith)
 
 -- why a step is refused
-data Stopped (p : Pen) (size after : ℕ) (st : Step) (fault : WriteFault) : Type 0 where
+data Stopped (p : WriterState) (size after : ℕ) (st : Step) (fault : WriteFault) : Type 0 where
   by_cause : (cause : Cause) → st ≡ stops cause → fault ≡ Format cause → Stopped p size after st fault
   no_room_on : (h : Tally) → st ≡ goes h → lies_in size (after + 4) ≡ false → fault ≡ ShortBuffer → Stopped p size after st fault
   no_room : st ≡ ends → lies_in size after ≡ false → fault ≡ ShortBuffer → Stopped p size after st fault
 
-too_far : (t : Bool) (r : Pen) (fault : WriteFault) → ◌≡◌ {A = Result Pen WriteFault} (cond t (Ok r) (Err ShortBuffer)) (Err fault) → (t ≡ false) × (fault ≡ ShortBuffer)
+too_far : (t : Bool) (r : WriterState) (fault : WriteFault) → ◌≡◌ {A = Result WriterState WriteFault} (cond t (Ok r) (Err ShortBuffer)) (Err fault) → (t ≡ false) × (fault ≡ ShortBuffer)
 too_far false r fault e = (refl, cc)
 too_far true r fault e = absurd (let z : ◌≡◌ {A = ℕ} 0 1 = cc in omega arith)
 
-same_fault : (f g : WriteFault) → ◌≡◌ {A = Result Pen WriteFault} (Err f) (Err g) → g ≡ f
+same_fault : (f g : WriteFault) → ◌≡◌ {A = Result WriterState WriteFault} (Err f) (Err g) → g ≡ f
 same_fault f g e = cc
 
-stopped : (p : Pen) (size after : ℕ) (st : Step) (fault : WriteFault) → put_step p size after st ≡ Err fault → Stopped p size after st fault
+stopped : (p : WriterState) (size after : ℕ) (st : Step) (fault : WriteFault) → put_step p size after st ≡ Err fault → Stopped p size after st fault
 stopped p size after (goes h) fault e = let t = too_far _ _ fault e in no_room_on h refl t.0 t.1
 stopped p size after ends fault e = let t = too_far _ _ fault e in no_room refl t.0 t.1
 stopped p size after (stops cause) fault e = by_cause cause refl (same_fault _ fault e)
@@ -82,7 +82,7 @@ last_kept (has_move (add i)) k = absurd (omega arith)
 last_kept (has_move (retract i)) k = absurd (omega arith)
 last_kept ends_here k = refl
 
-module _ (b : Begun) (p : Pen) (xs : List ℕ) (w : Written b p xs) (size : ℕ) (e : Entry) (s : Shown) (shows : shown (entry_record e).kind (entry_record e).body p.place ≡ Some s) where
+module _ (b : Begun) (p : WriterState) (xs : List ℕ) (w : Written b p xs) (size : ℕ) (e : Entry) (s : Shown) (shows : shown (entry_record e).kind (entry_record e).body p.place ≡ Some s) where
   -- the step of the record, by the rules for it
   judged : Breaks (step p.tally s (p.place + length (framed (entry_record e)))) (entry_rules b e)
   judged =

@@ -1,8 +1,8 @@
 // Lists of calls on catalogs of several makes.
+use catalog::house::HouseCatalog;
 use catalog::joined::Joined;
 use catalog::renumbered::Renumbered;
 use drawing::{Draws, Shape};
-use catalog::house::HouseCatalog;
 use judging::met::Met;
 use judging::trouble::Trouble;
 use random::density::Density;

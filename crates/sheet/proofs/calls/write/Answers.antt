@@ -1,7 +1,7 @@
 use Rattle.std.proofs.Common.{◌≡◌, ◌<◌, length, take, ◌∙◌, arith, rules}
 use Rattle.std.proofs.lemmas.Grind.{take_at_read}
 use Rattle.std.proofs.lemmas.List.{length-take-le, length-set, take_more_set}
-use Rattle.sheet_format.specs.Writing.{new_pen}
+use Rattle.sheet_format.specs.Writing.{new_writer}
 use Rattle.sheet.specs.declared.calls.Call.TheVariants.{Heading}
 use Rattle.sheet.proofs.Standing.{taken_more, past_set}
 use Rattle.sheet.proofs.calls.write.Goals as goal
@@ -14,7 +14,7 @@ loop-i-preserved c =
     let there : length calls ≡ c.min-there.result = length-take-le c.min-there.result c.args.calls.now (omega (arith, c.min-there.ensures)) in
     let low : i < length calls = search rules in
     let left : i < length c.loop-i.answers = omega (arith, low, there, inv.long, c.min-there.ensures) in
-    let more = taken_more new_pen c.args.buffer.now calls i (take i c.loop-i.answers) _ c.loop-i.writer c.loop-i.buffer _ c.make.result c.make.new.self c.make.new.buffer
+    let more = taken_more new_writer c.args.buffer.now calls i (take i c.loop-i.answers) _ c.loop-i.writer c.loop-i.buffer _ c.make.result c.make.new.self c.make.new.buffer
     (take_at_read calls i (Heading 0) low).1 (take_more_set c.loop-i.answers i c.make.result left) inv.runs inv.stands c.make.ensures.call c.make.ensures.stands in
     record {
       runs = more.0;

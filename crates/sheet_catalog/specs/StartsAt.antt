@@ -9,5 +9,5 @@ abbrev pub BeginsAt : List ℕ → ℕ → Raw → Type 0
 BeginsAt bytes start r = take (length (framed r)) (drop start bytes) ≡ framed r
 
 -- entry p of the list is where the constraint p of the sheet begins
-abbrev pub Begun : List ℕ → Sheet → List ℕ → ℕ → Type 0
-Begun bytes s starts p = BeginsAt bytes (slice_index starts p) (constraint_record (constraint_at s p))
+abbrev pub StartsAt : List ℕ → Sheet → List ℕ → ℕ → Type 0
+StartsAt bytes s starts p = BeginsAt bytes (slice_index starts p) (constraint_record (constraint_at s p))
