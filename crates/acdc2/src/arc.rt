@@ -30,8 +30,14 @@ impl Arc {
 
     // The arc of the constraint `p` whose far variable is `u`, if `u` is one of its ends.
     pub(crate) fn toward<C: Catalog>(catalog: &C, p: usize, u: usize) -> Option<Arc> {
-        let ends = catalog.ends(p)?;
-        Arc::both(p, ends).into_iter().find(|arc| arc.far == u)
+        let [there, back] = Arc::both(p, catalog.ends(p)?);
+        if there.far == u {
+            Some(there)
+        } else if back.far == u {
+            Some(back)
+        } else {
+            None
+        }
     }
 
     // May `d` of the near variable stand beside `e` of the far one?

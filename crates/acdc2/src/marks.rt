@@ -39,8 +39,12 @@ impl Marks {
 
     // Takes out the first constraint of the set, if there is one.
     pub(crate) fn take(&mut self) -> Option<usize> {
-        let p = self.marks.iter().position(|marked| *marked)?;
-        self.marks[p] = false;
-        Some(p)
+        for p in 0..128 {
+            if self.marks[p] {
+                self.marks[p] = false;
+                return Some(p);
+            }
+        }
+        None
     }
 }

@@ -66,7 +66,10 @@ impl State {
     pub(crate) fn domain(&self, u: usize) -> u64
         ensures { result ≡ domain_of self.now u }
     {
-        self.variables.get(u).map_or(0, |variable| variable.domain)
+        match self.variables.get(u) {
+            Some(variable) => variable.domain,
+            None => 0,
+        }
     }
 
     // Why the value `d` of `u` is out, if it is.

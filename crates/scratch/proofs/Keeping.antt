@@ -2,6 +2,7 @@
 use Rattle.std.proofs.Common.{◌≡◌, ℕ, zero, suc, ◌+◌, ◌*◌, ◌<◌, ◌≤◌, Bool, true, false, cond, ◌&&◌, ◌||◌, eqb, ltb, List, [], ◌∷◌, ◌++◌, length, get_or, take, set, replicate, Some, None, Option, sym, refl, ap, ◌∙◌, subst, ⊎_elim, arith}
 use Rattle.std.proofs.lemmas.List.{get_or-set_same, get_or-set_other, length-set, take_more, take_all}
 use Rattle.std.proofs.lemmas.Bool.{both_ways, cases_Bool, cases_eq, eqb-true, eqb-false, eq-eqb, ne_eqb, lt-ltb, ltb-true, or_parts, or_cases, or_left}
+use Rattle.std.specs.Option.{is_some}
 use Rattle.bits.specs.Bits.{has_bit}
 use Rattle.catalog.specs.Meaning.{Meaning, ends_of, allowed}
 use Rattle.scratch.specs.declared.arc.Arc.{Arc}
@@ -125,6 +126,10 @@ filled_same m sizes chosen chosen' ks e filled = record {
   kept = λ q h. filled.kept q (e q ∙ h);
   free = λ q h. filled.free q (e q ∙ h);
 }
+
+pub kept_some : (place : Option Arc) → is_some place ≡ true → is_kept place ≡ true
+kept_some None h = absurd (both_ways false refl h)
+kept_some (Some arc) h = refl
 
 pub filled_again
     : (m : Meaning) (sizes : List ℕ) (ks : List (Option Arc)) (p : ℕ) → on_at ks (2 * p) ≡ true → (chosen : ℕ → Bool)

@@ -16,15 +16,15 @@ use catalog::Catalog;
 use catalog::checks::check_sizes;
 use catalog::refusal::Refusal;
 use engine::Engine;
-use std::array;
 
 // The size of the variable i as a byte, 0 where there is no such variable.
 fn size_at(sizes: &[usize], i: usize) -> u8
     ensures { slice_index sizes.now i ≤ 64 → result ≡ slice_index sizes.now i }
 {
-    sizes
-        .get(i)
-        .map_or(0, |size| u8::try_from(*size).unwrap_or(0))
+    match sizes.get(i) {
+        Some(size) => u8::try_from(*size).unwrap_or(0),
+        None => 0,
+    }
 }
 
 // The sizes of 32 variables as bytes.
@@ -32,7 +32,11 @@ fn all_sizes(sizes: &[usize]) -> [u8; 32]
     ensures long { length result ≡ 32 }
     ensures each { (i : ℕ) → i < 32 → slice_index sizes.now i ≤ 64 → slice_index result i ≡ slice_index sizes.now i }
 {
-    array::from_fn(|i| size_at(sizes, i))
+    let mut all = [0; 32];
+    for (i, size) in all.iter_mut().enumerate() {
+        *size = size_at(sizes, i);
+    }
+    all
 }
 
 // Sizes that are accepted as bytes, with 0 past their end.

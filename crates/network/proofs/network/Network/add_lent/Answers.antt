@@ -2,7 +2,7 @@ use Rattle.std.proofs.Common.{◌≤◌, ◌++◌, length, drop, subst, arith}
 use Rattle.network.specs.declared.law.Answer.TheVariants.{Changed}
 use Rattle.network.specs.Calls.{adds}
 use Rattle.network.specs.Performs.{TookLent, answer_by, buffers}
-use Rattle.network.proofs.Lending.{lent_lengths, part_lent, past_part}
+use Rattle.network.proofs.Lending.{lent_lengths, part_lent, past_part, same_part}
 use Rattle.network.proofs.network.Network.add_lent.Goals as goal
 
 pub returns-clause-performs : goal.returns-clause-performs
@@ -22,3 +22,6 @@ returns-clause-performs g c stands =
 pub returns-clause-past : goal.returns-clause-past
 returns-clause-past g c =
     past_part 128 c.cut-part.result.waiting c.args.waiting.now c.add.new.waiting (omega (arith, c.cut-part.ensures.waiting)) c.add.ensures.past
+
+pub returns-clause-past_returning : goal.returns-clause-past_returning
+returns-clause-past_returning g c = same_part c.cut-part.result.returning c.args.returning.now c.add.new.returning c.add.ensures.returning
