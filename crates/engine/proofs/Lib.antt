@@ -5,3 +5,4 @@ pub mod Called
 pub mod Frees
 pub mod Beside
 pub mod Turns
+pub mod Still

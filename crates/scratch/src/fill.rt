@@ -47,7 +47,6 @@ impl<C: Catalog> Request<'_, C> {
     }
 
     // Each constraint that is named, kept both ways.
-    #[tactic(auto, using(crate::proofs::Accepting::indices_each, crate::proofs::Keeping::filled_more, crate::proofs::Keeping::filled_all))]
     pub(crate) fn fill(&self) -> [Option<Arc>; 256]
         requires { indices_refusal (C.Catalog.meaning self.now.catalog.now) (length self.now.sizes.now) self.now.indices.now ≡ None }
         ensures { Filled (C.Catalog.meaning self.now.catalog.now) self.now.sizes.now (named self.now.indices.now) result }

@@ -3,6 +3,7 @@ use Rattle.domains.specs.Sound.{Supported}
 use Rattle.domains.proofs.Revise.{went_trans}
 use Rattle.domains.proofs.Settle.{settled_all, visited}
 use Rattle.engine.proofs.Kept.{kept_trans}
+use Rattle.engine.proofs.Still.{went_same}
 use Rattle.engine.proofs.propagate.visit.Goals as goal
 
 pub returns : goal.returns
@@ -31,3 +32,9 @@ returns c =
           let e'' : d''.clock ≡ d'.clock = omega (arith, e, ra.went.later, rb.went.later) in
           c.settle-2.ensures.idle e'' ∙ c.settle.ensures.idle e';
     }
+
+pub returns-in_default-clause-went : goal.returns-in_default-clause-went
+returns-in_default-clause-went c = went_same c.args.c.now c.args.d.now
+
+pub returns-in_default-arc_at-clause-went : goal.returns-in_default-arc_at-clause-went
+returns-in_default-arc_at-clause-went c = went_same c.args.c.now c.args.d.now

@@ -4,8 +4,12 @@ use Rattle.domains.specs.Model.{row, shown}
 use Rattle.domains.specs.Sound.{Revising}
 use Rattle.domains.proofs.Revise.{total_positive, support_yes, support_no, revising_keep, revising_out}
 use Rattle.engine.proofs.Frees.{bare_no, bare_yes}
+use Rattle.engine.proofs.Still.{revising_none}
 use Rattle.engine.proofs.revise.revise.Goals as goal
 use Rattle.engine.proofs.revise.revise.Goals.{then-is_bare, else-is_bare}
+
+pub loop-x-init : goal.loop-x-init
+loop-x-init c = revising_none c.args.c.now c.args.d.now c.args.arc c.requires.sound
 
 pub put_out-requires : goal.put_out-requires
 put_out-requires c =
@@ -38,3 +42,8 @@ loop-x-preserved c =
           (let none : bit_and (get_or d.sets a.far 0) (row n a.rows x) ≡ 0 → ⊥ = bare_no _ _ w.if-is_bare.ensures h in omega (arith, none)))
           c.loop-x.invariant)
     ]
+
+pub returns-clause-revised : goal.returns-clause-revised
+returns-clause-revised c =
+    let all : c.loop-x.x ≡ 64 = omega arith in
+    subst (λ x. Revising c.args.c.now c.args.d.now c.loop-x.d c.args.arc x) all c.loop-x.invariant
