@@ -35,6 +35,17 @@ fn asked<'a>(groups: &'a [Group<'_>]) -> Option<Request<'a>> {
     }
 }
 
+// How many entries are as they were before the call.
+fn kept(list: &[u64]) -> usize {
+    let mut count: usize = 0;
+    for entry in list {
+        if *entry == UNTOUCHED {
+            count = count.wrapping_add(1);
+        }
+    }
+    count
+}
+
 fn answer<C: Catalog>(
     rt: &HostRuntime,
     catalog: &C,
@@ -58,7 +69,7 @@ fn answer<C: Catalog>(
         }
         Err(refusal) => print!(rt; " {refusal}")?,
     }
-    let kept = list.iter().filter(|entry| **entry == UNTOUCHED).count();
+    let kept = kept(&list);
     println!(rt; ", kept {kept}")?;
     Ok(())
 }

@@ -5,9 +5,9 @@ use crate::words::Line;
 use catalog::Catalog;
 use catalog::refusal::Refusal;
 use domains::Returning;
-use network::{Answer, Call, perform};
+use network::{Answer, Call, Network, perform};
 use std::alloc::{AllocError, Global};
-use std::array;
+use std::{array, slice};
 
 // How many entries the buffers have, and how many there are for answers.
 #[derive(Clone, Copy)]
@@ -47,21 +47,40 @@ fn entry_of<'a>(line: &'a Line<'_>) -> Entry<'a> {
             _ => {}
         }
     }
-    call(&line.groups).map_or(Entry::Unreadable, Entry::Call)
-}
-
-fn lengths_in(entry: &Entry<'_>) -> Option<Lengths> {
-    match *entry {
-        Entry::Lengths(lengths) => Some(lengths),
-        _ => None,
+    match call(&line.groups) {
+        Some(call) => Entry::Call(call),
+        None => Entry::Unreadable,
     }
 }
 
-fn call_in<'a>(entry: &Entry<'a>) -> Option<Call<'a>> {
-    match *entry {
-        Entry::Call(call) => Some(call),
-        _ => None,
+// The lengths of a list: those of the first line that says them.
+fn lengths_of(entries: &[Entry<'_>]) -> Lengths {
+    for entry in entries {
+        if let Entry::Lengths(lengths) = *entry {
+            return lengths;
+        }
     }
+    ENOUGH
+}
+
+// What each line of a list is, and the calls among them.
+#[derive(Drop)]
+struct List<'a> {
+    entries: Vec<Entry<'a>>,
+    calls: Vec<Call<'a>>,
+}
+
+fn list_of<'a>(heap: Global, lines: &'a [Line<'_>]) -> Result<List<'a>, AllocError> {
+    let mut entries = Vec::new(heap);
+    let mut calls = Vec::new(heap);
+    for line in lines {
+        let entry = entry_of(line);
+        if let Entry::Call(call) = entry {
+            calls.push(call)?;
+        }
+        entries.push(entry)?;
+    }
+    Ok(List { entries, calls })
 }
 
 // Buffers are full of what no change writes.
@@ -76,6 +95,21 @@ const NOTHING: Returning = Returning {
 // Do the entries past these stand as they were lent?
 fn as_lent_past<T: Copy + PartialEq>(buffer: &[T], mark: T, past: usize) -> bool {
     buffer.iter().skip(past).all(|entry| *entry == mark)
+}
+
+// Do all entries of the buffers stand as they were lent, and do those past the ones that a change may write?
+fn as_lent(waiting: &[u8], returning: &[Returning]) -> Outcome {
+    let whole = as_lent_past(waiting, MARK, 0) && as_lent_past(returning, NOTHING, 0);
+    let past = as_lent_past(waiting, MARK, 128) && as_lent_past(returning, NOTHING, 2048);
+    Outcome::AsLent(whole, past)
+}
+
+// The domains of the variables that a network may have, or why it does not tell them.
+fn domains_of<C: Catalog>(network: &Network<C>) -> [Answer; 32] {
+    array::from_fn(|i| match network.domain(i) {
+        Ok(domain) => Answer::Domain(domain),
+        Err(refusal) => Answer::Refused(refusal),
+    })
 }
 
 // What a list left.
@@ -97,15 +131,29 @@ fn perform_calls<C: Catalog + Drop>(
     let mut returning = vec![in heap; NOTHING; lengths.returning]?;
     let mut answers = vec![in heap; Answer::Opened; lengths.answers.min(calls.len())]?;
     let network = perform(catalog, calls, &mut answers, &mut waiting, &mut returning);
-    let whole = as_lent_past(&waiting, MARK, 0) && as_lent_past(&returning, NOTHING, 0);
-    let past = as_lent_past(&waiting, MARK, 128) && as_lent_past(&returning, NOTHING, 2048);
     Ok(Left {
         answers,
-        as_lent: Outcome::AsLent(whole, past),
-        domains: array::from_fn(|i| network
-            .domain(i)
-            .map_or_else(Answer::Refused, Answer::Domain)),
+        as_lent: as_lent(&waiting, &returning),
+        domains: domains_of(&network),
     })
+}
+
+// An answer, or what is printed where there is none.
+fn answered(answer: Option<&Answer>, missing: Outcome) -> Outcome {
+    match answer {
+        Some(answer) => Outcome::Answer(*answer),
+        None => missing,
+    }
+}
+
+// What came of a line. A call takes the next one of the answers.
+fn outcome_of(entry: Entry<'_>, answers: &mut slice::Iter<'_, Answer>, left: &Left) -> Outcome {
+    match entry {
+        Entry::Call(_) => answered(answers.next(), Outcome::NotMade),
+        Entry::Lengths(_) => left.as_lent,
+        Entry::After(variable) => answered(left.domains.get(variable), Outcome::Unreadable),
+        Entry::Unreadable => Outcome::Unreadable,
+    }
 }
 
 fn print_each(
@@ -116,18 +164,7 @@ fn print_each(
 ) -> anyhow::Result<()> {
     let mut answers = left.answers.iter();
     for (line, entry) in lines.iter().zip(entries) {
-        let outcome = match *entry {
-            Entry::Call(_) => answers
-                .next()
-                .map_or(Outcome::NotMade, |answer| Outcome::Answer(*answer)),
-            Entry::Lengths(_) => left.as_lent,
-            Entry::After(variable) => left
-                .domains
-                .get(variable)
-                .map_or(Outcome::Unreadable, |domain| Outcome::Answer(*domain)),
-            Entry::Unreadable => Outcome::Unreadable,
-        };
-        print_line(rt, line, outcome)?;
+        print_line(rt, line, outcome_of(*entry, &mut answers, left))?;
     }
     Ok(())
 }
@@ -139,9 +176,7 @@ pub fn listed<C: Catalog + Drop>(
     lines: &[Line<'_>],
 ) -> anyhow::Result<()> {
     let heap = rt.alloc();
-    let entries: Vec<Entry<'_>> = lines.iter().map(entry_of).collect(heap)?;
-    let calls: Vec<Call<'_>> = entries.iter().filter_map(call_in).collect(heap)?;
-    let lengths = entries.iter().find_map(lengths_in).unwrap_or(ENOUGH);
-    let left = perform_calls(heap, catalog, &calls, lengths)?;
+    let List { entries, calls } = list_of(heap, lines)?;
+    let left = perform_calls(heap, catalog, &calls, lengths_of(&entries))?;
     print_each(rt, lines, &entries, &left)
 }

@@ -70,12 +70,12 @@ impl Book {
     }
 
     pub fn is_in(&self, p: usize) -> bool {
-        self.present.get(p).copied().unwrap_or(false)
+        p < 128 && self.present[p]
     }
 
     fn set_in(&mut self, p: usize, now_in: bool) {
-        if let Some(place) = self.present.get_mut(p) {
-            *place = now_in;
+        if p < 128 {
+            self.present[p] = now_in;
         }
     }
 

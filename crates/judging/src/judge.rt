@@ -1,6 +1,6 @@
 // Whether the justifications that a solver tells are right, judged from the definition.
 use crate::book::{Book, Value};
-use crate::reported::Reported;
+use crate::reported::{Account, Reported};
 use catalog::Catalog;
 use std::alloc::{AllocError, Global};
 
@@ -24,10 +24,13 @@ impl<C: Catalog> Judge<'_, C> {
 
     // The other end of the constraint `p`, if `i` is an end.
     pub fn other_end(&self, p: usize, i: usize) -> Option<usize> {
-        match self.catalog.ends(p)? {
-            (a, b) if a == i => Some(b),
-            (a, b) if b == i => Some(a),
-            _ => None,
+        let (a, b) = self.catalog.ends(p)?;
+        if a == i {
+            Some(b)
+        } else if b == i {
+            Some(a)
+        } else {
+            None
         }
     }
 
@@ -47,13 +50,13 @@ impl<C: Catalog> Judge<'_, C> {
     // Is the value shown and without an account, or out with one that holds?
     fn value_justified(&self, value: Value) -> bool {
         let shown = self.reported.shows(value);
-        let Some(account) = self.reported.account(value) else {
+        let Some(Account { constraint, time }) = self.reported.account(value) else {
             return shown;
         };
-        !shown
-            && account
-                .constraint
-                .is_some_and(|p| self.accounts_for(value, p, account.time))
+        match constraint {
+            Some(p) => !shown && self.accounts_for(value, p, time),
+            None => false,
+        }
     }
 
     // Is each value shown and without an account, or out with one that holds?
@@ -66,13 +69,16 @@ impl<C: Catalog> Judge<'_, C> {
 
     // Have no two accounts the same time?
     pub fn times_differ(&self, heap: Global) -> Result<bool, AllocError> {
-        let accounts = self
-            .book
-            .values
-            .iter()
-            .filter_map(|value| self.reported.account(*value));
-        let mut times: Vec<u64> = accounts.map(|account| account.time).collect(heap)?;
+        let mut times = Vec::new(heap);
+        for value in &self.book.values {
+            if let Some(account) = self.reported.account(*value) {
+                times.push(account.time)?;
+            }
+        }
         times.sort_unstable();
-        Ok(times.array_windows::<2>().all(|[a, b]| a != b))
+        let count = times.len();
+        // of equal times one is left
+        times.dedup();
+        Ok(times.len() == count)
     }
 }

@@ -46,9 +46,10 @@ impl Reported {
     }
 
     pub fn shows(&self, value: Value) -> bool {
-        self.variables
-            .get(value.variable)
-            .is_some_and(|variable| bits::has(variable.domain, value.value))
+        match self.variables.get(value.variable) {
+            Some(variable) => bits::has(variable.domain, value.value),
+            None => false,
+        }
     }
 
     pub fn account(&self, value: Value) -> Option<Account> {
@@ -57,6 +58,11 @@ impl Reported {
             .get(value.variable)?
             .accounts
             .get(value.value)?
+    }
+
+    // The constraint of the value's account, where one is known.
+    pub fn constraint(&self, value: Value) -> Option<usize> {
+        self.account(value)?.constraint
     }
 
     pub fn set_account(&mut self, value: Value, account: Account) {
@@ -69,9 +75,9 @@ impl Reported {
 
     // Is the value out since before that time?
     pub fn out_before(&self, value: Value, time: u64) -> bool {
-        !self.shows(value)
-            && self
-                .account(value)
-                .is_some_and(|account| account.time < time)
+        match self.account(value) {
+            Some(account) => !self.shows(value) && account.time < time,
+            None => false,
+        }
     }
 }

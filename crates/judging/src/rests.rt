@@ -13,9 +13,10 @@ pub struct Resting {
 
 impl Resting {
     fn has(&self, value: Value) -> bool {
-        self.values
-            .get(value.variable)
-            .is_some_and(|values| bits::has(*values, value.value))
+        match self.values.get(value.variable) {
+            Some(values) => bits::has(*values, value.value),
+            None => false,
+        }
     }
 
     // Notes that the value rests.
@@ -29,11 +30,7 @@ impl Resting {
 impl<C: Catalog> Judge<'_, C> {
     // Does the value's justification rest on `p`, as far as is known: does it name `p`, or is there a support under its constraint that rests on it?
     fn rests(&self, resting: &Resting, value: Value, p: Option<usize>) -> bool {
-        let Some(constraint) = self
-            .reported
-            .account(value)
-            .and_then(|account| account.constraint)
-        else {
+        let Some(constraint) = self.reported.constraint(value) else {
             return false;
         };
         let Some(variable) = self.other_end(constraint, value.variable) else {

@@ -10,7 +10,6 @@ use judging::expected::differing;
 use judging::trouble::Trouble;
 use network::{Change, Lent};
 use std::alloc::Global;
-use std::array;
 
 // Just enough of the buffers.
 const ENOUGH: Lent = Lent {
@@ -39,13 +38,14 @@ impl<'a, C: Catalog> Both<'a, C> {
 
     // The domains, which are to be the same on both; of the variables past the last one they are empty.
     pub fn domains(&self) -> Result<[u64; 32], Trouble> {
-        let first: [u64; 32] = array::from_fn(|i| self.first.domain(i));
-        let second: [u64; 32] = array::from_fn(|i| self.second.domain(i));
-        if first == second {
-            Ok(first)
-        } else {
-            Err(Trouble::SecondDomains)
+        let mut domains = [0; 32];
+        for (i, domain) in domains.iter_mut().enumerate() {
+            *domain = self.first.domain(i);
+            if *domain != self.second.domain(i) {
+                return Err(Trouble::SecondDomains);
+            }
         }
+        Ok(domains)
     }
 
     // Makes a call on both. They are to refuse it by the same cause, or to have the same domains after it, of which the network is to tell how many values went or

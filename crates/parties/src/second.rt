@@ -40,7 +40,7 @@ impl<'a, C: Catalog> Second<'a, C> {
     // Makes a call.
     pub fn make(&mut self, heap: Global, call: Call) -> Result<(), Fault> {
         match call {
-            Call::Add(p) => self.solver.add(p).map_err(Fault::Refused),
+            Call::Add(p) => Ok(self.solver.add(p)?),
             Call::Retract(p) => self.solver.retract(heap, p),
         }
     }

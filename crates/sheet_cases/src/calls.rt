@@ -3,7 +3,7 @@
 use anyhow::{Context, anyhow};
 use sheet::{Call, Formula};
 use sheet_format::{Variable, WriteFault};
-use std::alloc::Global;
+use std::alloc::{AllocError, Global};
 
 // a call as it stands in the table
 #[derive(Drop)]
@@ -14,7 +14,10 @@ pub struct Line {
 }
 
 pub fn number(line: &Line, at: usize) -> i64 {
-    line.numbers.get(at).copied().unwrap_or(0)
+    match line.numbers.get(at) {
+        Some(number) => *number,
+        None => 0,
+    }
 }
 
 fn formula_of(line: &Line) -> anyhow::Result<Formula> {
@@ -65,16 +68,20 @@ pub fn call_of(line: &Line) -> anyhow::Result<Call<'_>> {
     }
 }
 
+pub fn calls_of<'a>(heap: Global, lines: &'a [Line]) -> anyhow::Result<Vec<Call<'a>>> {
+    let mut calls = Vec::new(heap);
+    for line in lines {
+        calls.push(call_of(line)?)?;
+    }
+    Ok(calls)
+}
+
 // a table's numbers after its ends are its rows
 fn line_of(heap: Global, word: &str) -> anyhow::Result<Line> {
-    let mut parts = word.split(',');
-    let letter = parts
-        .next()
-        .and_then(|first| first.chars().next())
-        .context("a call has no letter")?;
+    let letter = word.chars().next().context("a call has no letter")?;
     let mut numbers = Vec::new(heap);
     let mut rows = Vec::new(heap);
-    for part in parts {
+    for part in word.split(',').skip(1) {
         if letter == 't' && numbers.len() >= 2 {
             rows.push(part.parse::<u64>()?)?;
         } else {
@@ -111,6 +118,11 @@ pub fn case_of(heap: Global, text: &str) -> anyhow::Result<(usize, Vec<Line>)> {
         add_word(heap, &mut lines, word)?;
     }
     Ok((size as usize, lines))
+}
+
+// A buffer that nothing is written to yet.
+pub fn buffer_of(heap: Global, size: usize) -> Result<Vec<u8>, AllocError> {
+    Vec::from_elem(heap, 238, size)
 }
 
 pub fn checksum(bytes: &[u8]) -> u32 {

@@ -12,14 +12,16 @@ fn digit(c: u8) -> anyhow::Result<u8> {
     }
 }
 
-// The bytes that a word's digits write. Not by the crate `hex`, which reads capitals too and refuses a digit that is left over.
+// The bytes that a word's digits write. Not by the crate `hex`, which reads capitals too.
 fn bytes_of(heap: Global, word: &str) -> anyhow::Result<Vec<u8>> {
-    let digits: Vec<u8> = word.bytes().map(digit).try_collect(heap)?;
-    let (pairs, _) = digits.as_chunks::<2>();
-    let bytes = pairs
-        .iter()
-        .map(|[high, low]| *high << 4 | *low)
-        .collect(heap)?;
+    let (pairs, odd) = word.as_bytes().as_chunks::<2>();
+    if !odd.is_empty() {
+        return Err(anyhow!("a word has half a byte"));
+    }
+    let mut bytes = Vec::new(heap);
+    for [high, low] in pairs {
+        bytes.push(digit(*high)? << 4 | digit(*low)?)?;
+    }
     Ok(bytes)
 }
 

@@ -1,7 +1,7 @@
 // Makes the calls of a table of cases by a writer in hand, each of which is lent a buffer of its own. A line is as that of a list of calls on one buffer, and
 // besides the calls there are: `b` and a number, from here on only so many of the array's first bytes are lent; `n`, a size and a byte, from here on all of
 // another array is lent, of that size, which holds what was written so far and is full of that byte after it.
-use crate::calls::{Line, call_of, case_of, number, print_answers};
+use crate::calls::{Line, buffer_of, call_of, case_of, number, print_answers};
 use crate::reading::read_back;
 use anyhow::{Context, anyhow};
 use sheet::{Call, Writer};
@@ -81,7 +81,7 @@ pub fn try_case(rt: &HostRuntime, name: &str, text: &str) -> anyhow::Result<()> 
     let heap = rt.alloc();
     let (size, lines) = case_of(heap, text)?;
     let mut hand = Hand {
-        array: Vec::from_elem(heap, 238, size)?,
+        array: buffer_of(heap, size)?,
         lent: size,
         place: 0,
         calls: Vec::new(heap),
@@ -91,8 +91,6 @@ pub fn try_case(rt: &HostRuntime, name: &str, text: &str) -> anyhow::Result<()> 
     let filled = fill(heap, &mut writer, &mut hand, &lines);
     let _ = writer.abandon();
     filled?;
-    read_back(&hand.calls, &hand.answers, &hand.array).with_context(
-        || "what was written is read back",
-    )?;
+    read_back(&hand.calls, &hand.answers, &hand.array).context("what was written is read back")?;
     print_answers(rt, name, &hand.answers, &hand.array)
 }

@@ -1,14 +1,17 @@
 // Reads back what accepted calls of a writer put into a buffer. A difference is an error.
 use anyhow::{Context, anyhow};
 use sheet::{Call, Formula, Part, Record, check, read_record, rewrite};
-use sheet_format::{Summary, Variable, WriteFault, word};
+use sheet_format::{Summary, Variable, WriteFault};
 
 fn is_heading(n: u16, body: &[u8]) -> bool {
-    body.len() == 4 && word(body, 0) == 1 && word(body, 2) == n
+    let [low, high] = n.to_le_bytes();
+    body == [1, 0, low, high].as_slice()
 }
 
 fn is_variable(variable: Variable, body: &[u8]) -> bool {
-    body.len() == 4 && word(body, 0) == variable.size && word(body, 2) == variable.house
+    let [size_low, size_high] = variable.size.to_le_bytes();
+    let [house_low, house_high] = variable.house.to_le_bytes();
+    body == [size_low, size_high, house_low, house_high].as_slice()
 }
 
 fn is_formula(put: Formula, found: Formula) -> bool {
@@ -33,7 +36,7 @@ fn are_rows(rows: &[u64], bytes: &[u8]) -> bool {
 }
 
 fn is_index(index: u16, body: &[u8]) -> bool {
-    body.len() == 2 && word(body, 0) == index
+    body == index.to_le_bytes().as_slice()
 }
 
 // the record says what the call put
@@ -67,7 +70,9 @@ fn says(record: Record<'_>, call: Call<'_>) -> bool {
 // takes the record of an accepted call off what is left of the sheet
 fn read_one<'a>(left: Part<'a>, call: Call<'_>, place: usize) -> anyhow::Result<Part<'a>> {
     let at = u32::try_from(left.place)?;
-    let (record, rest) = read_record(left.bytes, at).map_err(|_| anyhow!("a record is not whole"))?;
+    let Ok((record, rest)) = read_record(left.bytes, at) else {
+        return Err(anyhow!("a record is not whole"));
+    };
     if says(record, call) && rest.place == place {
         Ok(rest)
     } else {
@@ -75,12 +80,14 @@ fn read_one<'a>(left: Part<'a>, call: Call<'_>, place: usize) -> anyhow::Result<
     }
 }
 
-// The records of the accepted calls stand in the sheet, one after the other, each up to the place that its call answered, and nothing else does.
+// The records of the accepted calls stand in the sheet, one after the other, each up to the place that its call answered, and nothing else does. How many
+// there are.
 fn read_records(
     sheet: &[u8],
     calls: &[Call<'_>],
     answers: &[Result<usize, WriteFault>],
-) -> anyhow::Result<()> {
+) -> anyhow::Result<u32> {
+    let mut records: u32 = 0;
     let mut left = Part {
         bytes: sheet,
         place: 0,
@@ -88,10 +95,11 @@ fn read_records(
     for (call, answer) in calls.iter().zip(answers) {
         if let Ok(place) = *answer {
             left = read_one(left, *call, place)?;
+            records = records.wrapping_add(1);
         }
     }
     if left.bytes.is_empty() {
-        Ok(())
+        Ok(records)
     } else {
         Err(anyhow!("more than was put"))
     }
@@ -100,7 +108,9 @@ fn read_records(
 // A second writer makes the same bytes of the sheet.
 fn copy_same(sheet: &[u8]) -> anyhow::Result<()> {
     let mut copy = [0; 65535];
-    let long = rewrite(sheet, &mut copy).map_err(|_| anyhow!("it is not copied"))?;
+    let Ok(long) = rewrite(sheet, &mut copy) else {
+        return Err(anyhow!("it is not copied"));
+    };
     if copy.get(..long) == Some(sheet) {
         Ok(())
     } else {
@@ -108,15 +118,11 @@ fn copy_same(sheet: &[u8]) -> anyhow::Result<()> {
     }
 }
 
-// How many accepted calls there are up to an accepted end, that one among them, and the place that it answered.
-fn ended(calls: &[Call<'_>], answers: &[Result<usize, WriteFault>]) -> Option<(u32, usize)> {
-    let mut records: u32 = 0;
+// The place that an accepted end answered.
+fn ended(calls: &[Call<'_>], answers: &[Result<usize, WriteFault>]) -> Option<usize> {
     for (call, answer) in calls.iter().zip(answers) {
-        if let Ok(place) = *answer {
-            records = records.wrapping_add(1);
-            if let Call::End = call {
-                return Some((records, place));
-            }
+        if let (Call::End, Ok(place)) = (*call, *answer) {
+            return Some(place);
         }
     }
     None
@@ -136,14 +142,16 @@ pub fn read_back(
     answers: &[Result<usize, WriteFault>],
     buffer: &[u8],
 ) -> anyhow::Result<()> {
-    let Some((records, place)) = ended(calls, answers) else {
+    let Some(place) = ended(calls, answers) else {
         return Ok(());
     };
     let sheet = buffer.get(..place).context("the end is past the buffer")?;
-    let found = check(sheet).map_err(|fault| anyhow!("{fault}"))?;
-    if counted(&found) != records {
+    let found = match check(sheet) {
+        Ok(found) => found,
+        Err(fault) => return Err(anyhow!("{fault}")),
+    };
+    if counted(&found) != read_records(sheet, calls, answers)? {
         return Err(anyhow!("{found}"));
     }
-    read_records(sheet, calls, answers)?;
     copy_same(sheet)
 }
