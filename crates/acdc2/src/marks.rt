@@ -39,12 +39,8 @@ impl Marks {
 
     // Takes out the first constraint of the set, if there is one.
     pub(crate) fn take(&mut self) -> Option<usize> {
-        for p in 0..128 {
-            if self.marks[p] {
-                self.marks[p] = false;
-                return Some(p);
-            }
-        }
-        None
+        let p = self.marks.iter().position(|marked| *marked)?;
+        self.marks[p] = false;
+        Some(p)
     }
 }

@@ -10,7 +10,7 @@ use network::{Answer, Change, Lent, Network};
 use std::alloc::{AllocError, Global};
 
 // A network, and the buffers of which it is lent a part at each change: two literals, in lists. With arrays here the borrow checker has no rule yet for the call of
-// `tell` in `Trial::open`.
+// `First::report` after an opening.
 #[derive(Drop)]
 pub struct First<'a, C> {
     network: Network<Borrowed<'a, C>>,

@@ -28,8 +28,8 @@ fn enqueue_changed(
     ensures kept { Kept q.old q.new }
     ensures waits { (i r : ℕ) → i < 32 → (slice_index after.now i ≢ slice_index before.now i) → (arcs_of c.now).on i r ≡ true → slice_index_or marks.new r false ≡ true }
 {
-    for i in 0..32 {
-        if after[i] != before[i] {
+    for (i, (old, new)) in before.iter().zip(after).enumerate() {
+        if new != old {
             enqueue_at(c, q, marks, i, None);
         }
     }
