@@ -34,7 +34,7 @@ def table_allows(rows):
     return lambda x, y: x < len(rows) and bool(rows[x] >> y & 1)
 
 
-def pile(data):
+def decoded(data):
     """The sizes by house number, the constraints of the sheet and the house with their ends by house number, and the moves."""
     variables, constraints, moves = [], [], []
     for kind, body in records(data):
@@ -81,7 +81,7 @@ def missing(domains, others):
 
 
 def listing(data):
-    sizes, constraints, moves = pile(data)
+    sizes, constraints, moves = decoded(data)
     present, domains = set(), largest(sizes, [])
     for word, p in moves:
         cause = refusal(sizes, constraints, present, word, p)
