@@ -1,4 +1,4 @@
-// A list of a writer's calls, made one after the other.
+// Calls of a writer given as values: one, or a list of them that are made one after the other.
 ghost use Rattle.std.specs.Prelude.{◌≡◌, List, ◌++◌, drop, length, take};
 ghost use Rattle.sheet.specs.Calls.{asked, Makes, Placed, one_put, Stands, Wrote};
 
@@ -27,7 +27,7 @@ pub enum Call<'a> {
 }
 
 impl Writer {
-    // Makes a call of a list: the one of its kind.
+    // Makes one call, given as a value: the method of its kind, with what it says.
     pub fn make(&mut self, buffer: &mut [u8], call: Call<'_>) -> Result<usize, WriteFault>
         ensures call { Makes self.old buffer.old (asked call.entry) self.new buffer.new result }
         ensures stands { (entries : List Placed) → Stands entries self.old buffer.old → Stands (entries ++ one_put (asked call.entry) result) self.new buffer.new }

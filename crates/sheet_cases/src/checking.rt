@@ -1,5 +1,5 @@
 // Checks the sheets of a table of cases, and prints each verdict with the count of records before a fault.
-// A line is a name, a colon and the sheet's bytes: words of hexadecimal digits, each perhaps followed by `*` and how often it stands.
+// A line is a name, a colon and the sheet's bytes: words of hexadecimal digits, two a byte, each perhaps followed by `*` and how often it stands.
 use anyhow::anyhow;
 use sheet::check;
 use std::alloc::Global;

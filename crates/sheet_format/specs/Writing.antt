@@ -1,4 +1,4 @@
--- What a writer of sheets puts down, and what each of its calls does to it and to the buffer.
+-- What a writer of sheets knows, and what each of its calls does to it and to the buffer.
 use Rattle.std.specs.Prelude.{◌≡◌, ℕ, ◌+◌, Bool, true, false, cond, not, ◌&&◌, List, ◌++◌, length, take, drop, Some, Ok, Err, Result, nat_lt}
 use Rattle.sheet_format.specs.declared.found.Variable.{Variable}
 use Rattle.sheet_format.specs.declared.writing.WriteFault.{WriteFault}
@@ -63,7 +63,7 @@ put p size s long = cond p.is_open (put_step p size (p.place + long) (step p.tal
 abbrev pub laid : ℕ → List ℕ → List ℕ → List ℕ
 laid place bytes buffer = take place buffer ++ (bytes ++ drop (place + length bytes) buffer)
 
--- A call that puts a record: the new writer, and the answer, which is the place reached; the bytes stand in the buffer from the old place on.
+-- A call that puts a record: the writer after it, and the answer, which is the place reached; the bytes stand in the buffer from the old place on.
 -- Or it is refused, and writer and buffer are as they were.
 abbrev pub Puts : WriterState → List ℕ → Shown → List ℕ → WriterState → List ℕ → Result ℕ WriteFault → Type 0
 Puts p xs s bytes q ys (Ok place) = (put p (length xs) s (length bytes) ≡ Ok q) × (place ≡ q.place) × (ys ≡ laid p.place bytes xs)

@@ -1,4 +1,4 @@
--- What the call of a writer makes of the beginning of a sheet that it has written.
+-- What a call of a writer makes of the beginning of a sheet that it has written.
 use Rattle.std.specs.Prelude.{FitsSigned}
 use Rattle.std.proofs.Common.{◌≡◌, ℕ, ◌+◌, ◌*◌, ◌/◌, ◌%◌, ◌^◌, ◌<◌, ◌≤◌, Bool, true, false, cond, List, [], ◌∷◌, ◌++◌, length, take, drop, Ok, Err, Result, sym, refl, ap, ◌∙◌, subst, arith, of_z, w16, w32}
 use Rattle.std.specs.List.{flat_map, AllByRecursion}
