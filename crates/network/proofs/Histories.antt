@@ -6,7 +6,7 @@ use Rattle.network.specs.Buffers.{Buffers}
 use Rattle.network.specs.Moment.{Moment, Right}
 use Rattle.network.specs.Calls.{Call}
 use Rattle.network.specs.History.{Performed, History, Steps}
-use Rattle.network.specs.Theorems.{HistoriesJoin, HistoriesPart, HistoriesRight, HistoriesAreSteps, StepsJoin}
+use Rattle.network.specs.Theorems.{HistoriesJoin, HistoriesPart, HistoriesRight, HistoriesAreSteps, StepsJoin, StepsPart, StepsRight}
 
 pub join : HistoriesJoin
 join m s t u b c d [] [] ls bs e h =
@@ -45,3 +45,17 @@ steps_join m s t u [] [] ls bs e h = subst (λ v. Steps m v ls bs u) e h
 steps_join m s t u [] (a ∷ answers) ls bs e h = absurd e
 steps_join m s t u (k ∷ ks) [] ls bs e h = absurd e
 steps_join m s t u (k ∷ ks) (a ∷ answers) ls bs e h = (e.0, e.1, steps_join m e.0 t u ks answers ls bs e.2 h)
+
+pub steps_part : StepsPart
+steps_part m s u ks answers zero h = (s, refl, h)
+steps_part m s u [] [] (suc n) h = (s, refl, h)
+steps_part m s u [] (a ∷ answers) (suc n) h = absurd h
+steps_part m s u (k ∷ ks) [] (suc n) h = absurd h
+steps_part m s u (k ∷ ks) (a ∷ answers) (suc n) h =
+    let r = steps_part m h.0 u ks answers n h.2 in (r.0, (h.0, h.1, r.1), r.2)
+
+pub steps_right : StepsRight
+steps_right m s t [] [] r h = subst (λ v. Right m v) (sym h) r
+steps_right m s t [] (a ∷ answers) r h = absurd h
+steps_right m s t (k ∷ ks) [] r h = absurd h
+steps_right m s t (k ∷ ks) (a ∷ answers) r h = steps_right m h.0 t ks answers h.1.right h.2

@@ -26,3 +26,11 @@ HistoriesAreSteps = (m : Meaning) (s t : Moment) (b c : Buffers) (ks : List Call
 -- and steps join, also where other buffers are lent from some call on
 abbrev pub StepsJoin : Type 0
 StepsJoin = (m : Meaning) (s t u : Moment) (ks : List Call) (as₁ : List Answer) (ls : List Call) (as₂ : List Answer) → Steps m s ks as₁ t → Steps m t ls as₂ u → Steps m s (ks ++ ls) (as₁ ++ as₂) u
+
+-- after any number of steps they have come to a moment, from which the rest leads on
+abbrev pub StepsPart : Type 0
+StepsPart = (m : Meaning) (s u : Moment) (ks : List Call) (as₁ : List Answer) (n : ℕ) → Steps m s ks as₁ u → (t : Moment) × Steps m s (take n ks) (take n as₁) t × Steps m t (drop n ks) (drop n as₁) u
+
+-- where everything stands rightly before steps, it does after them, whatever buffers each call was lent
+abbrev pub StepsRight : Type 0
+StepsRight = (m : Meaning) (s t : Moment) (ks : List Call) (as₁ : List Answer) → Right m s → Steps m s ks as₁ t → Right m t

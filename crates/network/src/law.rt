@@ -1,7 +1,7 @@
 // What the calls on a network answer, and the law of every list of calls.
 ghost use Rattle.std.specs.Prelude.{Some};
 ghost use Rattle.network.specs.Text.{change_text};
-ghost use Rattle.network.specs.Theorems.{HistoriesAreSteps, HistoriesJoin, HistoriesPart, HistoriesRight, StepsJoin};
+ghost use Rattle.network.specs.Theorems.{HistoriesAreSteps, HistoriesJoin, HistoriesPart, HistoriesRight, StepsJoin, StepsPart, StepsRight};
 
 use catalog::refusal::Refusal;
 use domains::Justification;
@@ -66,4 +66,14 @@ pub fn histories_are_steps()
 // Steps join, also where other buffers are lent from some call on.
 pub fn steps_join()
     ensures { StepsJoin }
+{}
+
+// Steps can be parted after any of their calls.
+pub fn steps_part()
+    ensures { StepsPart }
+{}
+
+// Where everything stands rightly before steps, it does after each of them, whatever buffers were lent.
+pub fn steps_right()
+    ensures { StepsRight }
 {}

@@ -11,6 +11,6 @@ pub use by_hand::{Tried, try_out};
 pub use calls::{Call, Lent, perform};
 pub use law::{
     Answer, Change, histories_are_steps, histories_join, histories_part, histories_right,
-    steps_join,
+    steps_join, steps_part, steps_right,
 };
 pub use network::Network;
