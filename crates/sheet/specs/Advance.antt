@@ -23,8 +23,8 @@ pub record OneFurther (w next : Walk) : Type 0 where
   pub same_end : next.place + length next.input.now ≡ w.place + length w.input.now
   pub further : length next.input.now + 4 ≤ length w.input.now
 
--- what the answer says of that verdict
-abbrev pub Advanced : Walk → Result (ControlFlow Summary Walk) SheetFault → Type 0
-Advanced w (Ok (Continue next)) = OneFurther w next
-Advanced w (Ok (Break summary)) = (go : Onward) → after_record go w ≡ Ok summary
-Advanced w (Err fault) = (go : Onward) → after_record go w ≡ Err fault
+-- what the answer says of that verdict, and of the walk after it
+abbrev pub Advanced : Walk → Result (ControlFlow Summary Unit) SheetFault → Walk → Type 0
+Advanced w (Ok (Continue x)) next = OneFurther w next
+Advanced w (Ok (Break summary)) next = (go : Onward) → after_record go w ≡ Ok summary
+Advanced w (Err fault) next = (go : Onward) → after_record go w ≡ Err fault

@@ -47,11 +47,11 @@ Became g (goes next) h = h ≡ next
 Became g ends h = h ≡ g
 Became g (stops cause) h = Unit {0}
 
--- the step goes on, or is the end of this tally's sheet, or stops
-abbrev pub Flows : Tally → Step → Result (ControlFlow Summary Tally) Cause → Type 0
-Flows g s (Ok (Continue next)) = s ≡ goes next
-Flows g s (Ok (Break found)) = (s ≡ ends) × (found ≡ summary g)
-Flows g s (Err cause) = s ≡ stops cause
+-- the step goes on to the tally h, or is the end of the sheet of the tally g, or stops; the last two leave g as it was
+abbrev pub Flows : Tally → Step → Result (ControlFlow Summary Unit) Cause → Tally → Type 0
+Flows g s (Ok (Continue x)) h = s ≡ goes h
+Flows g s (Ok (Break found)) h = (s ≡ ends) × (found ≡ summary g) × (h ≡ g)
+Flows g s (Err cause) h = (s ≡ stops cause) × (h ≡ g)
 
 -- a constraint may come to this tally, or it is refused whatever it says
 abbrev pub Turn : Tally → Result Unit Cause → Type 0

@@ -25,44 +25,46 @@ pub struct Walk<'a> {
 fn refused(cause: Cause, byte: u32, records: u32) -> SheetFault
     ensures { Err result ≡ format_fault cause byte records }
 {
-    SheetFault::Format(Counted {
+    Counted {
         fault: FormatFault { cause, byte },
         records,
-    })
+    }
+    .into()
 }
 
 impl<'a> Walk<'a> {
     ghost use Rattle.sheet.specs.Advance.{Advanced};
 
-    // One record more: the walk goes on after it, or the sheet is accepted.
-    fn advance(self) -> Result<ControlFlow<Summary, Walk<'a>>, SheetFault>
-        ensures { Advanced self.entry result }
+    // One record more: the walk stands after it, or the sheet is accepted. By `&mut`: a walk that is handed over and back is copied for each record.
+    fn advance(&mut self) -> Result<ControlFlow<Summary>, SheetFault>
+        ensures { Advanced self.old result self.new }
     {
         let Walk {
             progress,
             input,
-            place,
-            records,
+            place: next_place,
+            records: next_records,
         } = self;
+        let place = *next_place;
+        let records = *next_records;
         let (taken, rest) = after_records(read_record(input, place), records)?;
         let end = rest.place as u32;
         let flow = progress
             .admit(taken, end)
             .map_err(|cause| refused(cause, place, records))?;
         match flow {
-            ControlFlow::Continue(progress) => Ok(ControlFlow::Continue(Walk {
-                progress,
-                input: rest.bytes,
-                place: end,
-                records: records + 1,
-            })),
-            ControlFlow::Break(summary) => {
+            ControlFlow::Continue(()) => {
+                *input = rest.bytes;
+                *next_place = end;
+                *next_records = records + 1;
+            }
+            ControlFlow::Break(_) => {
                 if !rest.bytes.is_empty() {
                     return Err(refused(Cause::Trailing, end, records + 1));
                 }
-                Ok(ControlFlow::Break(summary))
             }
         }
+        Ok(flow)
     }
 }
 
@@ -80,7 +82,7 @@ fn walk_through(sheet: &[u8]) -> Result<Summary, SheetFault>
     loop {
         match walk.advance()? {
             ControlFlow::Break(summary) => return Ok(summary),
-            ControlFlow::Continue(next) => walk = next,
+            ControlFlow::Continue(()) => {}
         }
     }
 }

@@ -275,18 +275,18 @@ impl Progress {
 
     // One record more, which ends before the byte `after` of the sheet. The end record gives what the sheet holds.
     pub(crate) fn admit(
-        mut self,
+        &mut self,
         taken: Record<'_>,
         after: u32,
-    ) -> Result<ControlFlow<Summary, Progress>, Cause>
-        requires { self.moves < 65536 }
-        ensures { Flows self (step self (shown_by taken.entry) after) result }
+    ) -> Result<ControlFlow<Summary>, Cause>
+        requires { self.old.moves < 65536 }
+        ensures { Flows self.old (step self.old (shown_by taken.entry) after) result self.new }
     {
         let next = self.judge(taken)?;
         if let Next::End = next {
             return Ok(ControlFlow::Break(self.summary()));
         }
         self.take(next, after);
-        Ok(ControlFlow::Continue(self))
+        Ok(ControlFlow::Continue(()))
     }
 }

@@ -10,27 +10,25 @@ returns-in_err-summary c =
     let p = err_from_is_err_and c.from_residual.result c.from_residual.ensures.1 in
     p.1
     ∙ ap Err p.2
-    ∙ sym (c.in_err-summary.ensures (walked (suc (length c.args.sheet.now) - (w.1.1.1.0 + 1))))
-    ∙ walk_more c.args.sheet.now w.1.0.now w.1.1.0 w.1.1.1.0 w.0 _ (omega arith) c.loop-summary.invariant.0
+    ∙ sym (c.in_err-summary.ensures (walked (suc (length c.args.sheet.now) - (w.records + 1))))
+    ∙ walk_more c.args.sheet.now w.input.now w.place w.records w.progress _ (omega arith) c.loop-summary.invariant.0
 
 pub returns-in-Break : goal.returns-in-Break
 returns-in-Break c =
     let w = c.loop-summary.walk in
     let a = rw c.in-Break.is at c.in_ok-summary.ensures in
-    sym (a (walked (suc (length c.args.sheet.now) - (w.1.1.1.0 + 1))))
-    ∙ walk_more c.args.sheet.now w.1.0.now w.1.1.0 w.1.1.1.0 w.0 _ (omega arith) c.loop-summary.invariant.0
+    sym (a (walked (suc (length c.args.sheet.now) - (w.records + 1))))
+    ∙ walk_more c.args.sheet.now w.input.now w.place w.records w.progress _ (omega arith) c.loop-summary.invariant.0
 
 pub loop-summary-preserved : goal.loop-summary-preserved
 loop-summary-preserved c =
     let w = c.loop-summary.walk in
-    let next = c.in-Continue.next in
-    let a = rw c.in-Continue.is at c.in_ok-summary.ensures in
-    let counted = next.counted in
-    let few = next.few in (
+    let next = c.advance.new.self in
+    let a = rw c.in-Continue.is at c.in_ok-summary.ensures in (
       ap (λ n. walked (suc (length c.args.sheet.now) - n) next.input.now next.place n next.progress) a.counted
-          ∙ sym (a.goes_on (walked (suc (length c.args.sheet.now) - (w.1.1.1.0 + 1))))
-          ∙ walk_more c.args.sheet.now w.1.0.now w.1.1.0 w.1.1.1.0 w.0 _ (omega arith) c.loop-summary.invariant.0,
+          ∙ sym (a.goes_on (walked (suc (length c.args.sheet.now) - (w.records + 1))))
+          ∙ walk_more c.args.sheet.now w.input.now w.place w.records w.progress _ (omega arith) c.loop-summary.invariant.0,
       omega (arith, a.same_end),
-      counted,
-      few,
+      next.counted,
+      next.few,
     )
