@@ -1,5 +1,6 @@
-// Reading the sizes from a sheet.
-ghost use Rattle.std.specs.Prelude.{◌≡◌, ℕ, ◌<◌, None, length, slice_index};
+// Making sizes: of a list, or of a sheet.
+ghost use Rattle.std.specs.Prelude.{◌≡◌, ℕ, ◌<◌, IfOk, None, length, slice_index};
+ghost use Rattle.std.specs.Result.{result_err};
 ghost use Rattle.catalog.specs.Causes.{sizes_refusal};
 ghost use Rattle.sheet_format.specs.Decoding.{decode};
 ghost use Rattle.sheet_catalog.specs.Meant.{sheet_in};
@@ -8,6 +9,8 @@ ghost use Rattle.sheet_catalog.specs.Sizes.{listed};
 
 use crate::sizes::Sizes;
 use crate::variables::variable_at;
+use catalog::checks::check_sizes;
+use catalog::refusal::Refusal;
 use sheet::Accepted;
 use std::array;
 
@@ -35,6 +38,20 @@ fn sizes_in(sheet: &Accepted<'_>) -> [usize; 32]
 }
 
 impl Sizes {
+    // These sizes, or why a network takes no such variables.
+    pub fn new(list: &[usize]) -> Result<Sizes, Refusal>
+        ensures refused { result_err result ≡ sizes_refusal list.now }
+        ensures listed { IfOk result (λ sizes. listed sizes ≡ list.now) }
+    {
+        check_sizes(list)?;
+        let mut sizes = [0; 32];
+        sizes[..list.len()].copy_from_slice(list);
+        Ok(Sizes {
+            sizes,
+            count: list.len(),
+        })
+    }
+
     // The sizes that the sheet gives.
     #[tactic(auto, using(crate::proofs::Known::sizes_at))]
     pub fn of(sheet: &Accepted<'_>) -> Sizes
