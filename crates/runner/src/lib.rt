@@ -9,6 +9,7 @@ mod sheets;
 mod texts;
 
 pub use faults::{MoveFault, RunFault};
+pub use outcomes::outcome_of;
 pub use reports::Report;
 pub use running::moving::run_moves;
 pub use sheets::{listing, run_sheet};

@@ -1,19 +1,18 @@
 // What came of moves.
-ghost use Rattle.std.specs.Prelude.{◌≡◌, Some, count_by, is_err, is_some, true};
+ghost use Rattle.std.specs.Prelude.{◌≡◌, count_by, is_err};
 ghost use Rattle.runner.specs.Runs.{outcome};
 
 use crate::faults::{MoveFault, RunFault};
 use network::{Answer, Change};
 
-// What came of the move that has so many before it, by the answer to it.
-pub(crate) fn outcome_of(answer: Answer, before: usize) -> Result<Change, RunFault>
-    requires { is_some (outcome before answer) ≡ true }
-    ensures { outcome before answer ≡ Some result }
+// What came of the move that has so many before it, by the answer to it: a change, or its fault. An answer to another kind of call is none.
+pub fn outcome_of(answer: Answer, before: usize) -> Option<Result<Change, RunFault>>
+    ensures { result ≡ outcome before answer }
 {
     match answer {
-        Answer::Changed(change) => Ok(change),
-        Answer::Refused(refusal) => Err(MoveFault { before, refusal }.into()),
-        _ => unreachable!(),
+        Answer::Changed(change) => Some(Ok(change)),
+        Answer::Refused(refusal) => Some(Err(MoveFault { before, refusal }.into())),
+        _ => None,
     }
 }
 

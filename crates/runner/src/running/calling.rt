@@ -89,7 +89,10 @@ impl<C: Catalog> Running<C> {
         ensures { MadeOne C.Catalog.meaning self.old before m result self.new }
     {
         let answer = self.perform(call_of(m));
-        outcome_of(answer, before)
+        match outcome_of(answer, before) {
+            Some(outcome) => outcome,
+            None => unreachable!(),
+        }
     }
 
     // The domain of a variable.
