@@ -37,14 +37,15 @@ pub fn rows<C: Catalog>(catalog: &C, p: usize, left_size: usize, right_size: usi
     rows
 }
 
-// Which of the rows have the value `y`.
+// Which of the rows have the value `y`: those that share a value with the set of `y` alone, which is made once for all of them.
 #[tactic(auto, using(bits::proofs::Bitwise::has_of_zero))]
 fn column(rows: &[u64; 64], y: usize) -> u64
     ensures { (x : ℕ) → has_bit result x ≡ has_bit (slice_index rows.now x) y }
 {
+    let only = bits::with(0, y);
     let mut column = 0;
     for (x, row) in rows.iter().enumerate() {
-        if bits::has(*row, y) {
+        if *row & only != 0 {
             column = bits::with(column, x);
         }
     }

@@ -8,18 +8,19 @@ ghost use Rattle.scratch.specs.Settling.{Placed, Revised, Swept, stays};
 use crate::arc::Arc;
 
 impl Arc {
-    // The values in the set `near` that have a support in the set `far`.
-    #[tactic(auto, using(bits::proofs::Bitwise::has_past))]
+    // The values in the set `near` that have a support in the set `far`. Those with a support are gathered from nothing: a set from which the others
+    // are taken one after the other has each row wait for the one before.
+    #[tactic(auto, using(bits::proofs::Bitwise::has_past, bits::proofs::Bitwise::has_and, bits::proofs::Bitwise::has_of_zero))]
     fn supported(&self, near: u64, far: u64) -> u64
         ensures { (x : ℕ) → has_bit result x ≡ stays self.now near far x }
     {
-        let mut stay = near;
+        let mut found = 0;
         for (x, row) in self.rows.iter().enumerate() {
-            if *row & far == 0 {
-                stay = bits::without(stay, x);
+            if *row & far != 0 {
+                found = bits::with(found, x);
             }
         }
-        stay
+        near & found
     }
 
     // Puts the values without support out of the near variable's domain, and says whether there were any.
