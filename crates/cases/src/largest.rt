@@ -1,4 +1,6 @@
 // The largest domains from scratch.
+ghost use Rattle.std.specs.Prelude.{◌≡◌, count_by, nat_eq};
+
 use crate::outcome::{Outcome, print_line};
 use crate::words::{Group, Line};
 use catalog::Catalog;
@@ -35,15 +37,11 @@ fn asked<'a>(groups: &'a [Group<'_>]) -> Option<Request<'a>> {
     }
 }
 
-// How many entries are as they were before the call.
-fn kept(list: &[u64]) -> usize {
-    let mut count: usize = 0;
-    for entry in list {
-        if *entry == UNTOUCHED {
-            count = count.wrapping_add(1);
-        }
-    }
-    count
+// How many entries of the list hold the value.
+fn count_of(value: u64, list: &[u64]) -> usize
+    ensures { result ≡ count_by (λ x. nat_eq x value) list.now }
+{
+    list.iter().filter(|entry| **entry == value).count()
 }
 
 fn answer<C: Catalog>(
@@ -69,7 +67,7 @@ fn answer<C: Catalog>(
         }
         Err(refusal) => print!(rt; " {refusal}")?,
     }
-    let kept = kept(&list);
+    let kept = count_of(UNTOUCHED, &list);
     println!(rt; ", kept {kept}")?;
     Ok(())
 }

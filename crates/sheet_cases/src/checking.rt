@@ -12,15 +12,16 @@ fn digit(c: u8) -> anyhow::Result<u8> {
     }
 }
 
-// The bytes that a word's digits write. Not by the crate `hex`, which reads capitals too.
+// The bytes that a word's digits write; a last digit that has no second one writes none. Not by the crate `hex`, which reads capitals too and refuses
+// such a digit.
 fn bytes_of(heap: Global, word: &str) -> anyhow::Result<Vec<u8>> {
-    let (pairs, odd) = word.as_bytes().as_chunks::<2>();
-    if !odd.is_empty() {
-        return Err(anyhow!("a word has half a byte"));
-    }
+    let (pairs, left_over) = word.as_bytes().as_chunks::<2>();
     let mut bytes = Vec::new(heap);
     for [high, low] in pairs {
         bytes.push(digit(*high)? << 4 | digit(*low)?)?;
+    }
+    for half in left_over {
+        digit(*half)?;
     }
     Ok(bytes)
 }
